@@ -1,0 +1,2 @@
+//! Braids of rack type, with the definitions of the Nichols algebra.
+#![tactic(auto)]

@@ -1,0 +1,58 @@
+-- Linear maps: they keep sums, multiples and zero, and see the values of a combination alone.
+use Rattle.std.proofs.Common.{◌≡◌, ℕ, List, [], ◌∷◌, ◌++◌, map, refl, sym, ◌∙◌, ap, append_assoc}
+use Rattle.std.specs.List.{flat_map}
+use Rattle.nichols_field.specs.Field.{FieldValue, IsField, IsElement, plus, times, negative}
+use Rattle.nichols_field.proofs.FieldLaws.{plus_comm, plus_zero, times_one, zero_is_element, one_is_element, times_is_element}
+use Rattle.nichols_field.proofs.FieldAlgebra.{one_times, difference_of_same, same_from_difference}
+use Rattle.nichols_tensor.specs.Combination.{Term, Combination, value_at, HasSameValues, IsZero, single, scaled, minus, extended, same_letters}
+use Rattle.nichols_tensor.proofs.Values.{value_is_element, value_at-append, value_at-scaled, value_at-minus, weight, weight_is_element, weight-append, weight-scaled, value_at-extended, weightless}
+
+-- a combination that is zero is sent to zero
+pub extended_is_zero : (k : FieldValue) → IsField k → (image : List ℕ → Combination) (f : Combination) → IsZero k f → IsZero k (extended k image f)
+extended_is_zero k is image f h w = value_at-extended k is image f w ∙ weightless k is (λ v. value_at k (image v) w) f h
+
+pub minus_is_zero : (k : FieldValue) → IsField k → (f g : Combination) → HasSameValues k f g → IsZero k (minus k f g)
+minus_is_zero k is f g same w =
+    value_at-minus k is f g w ∙ ap (λ n. plus k n (times k (negative k 1) (value_at k g w))) (same w) ∙ difference_of_same k (value_at k g w) is
+
+pub same_from_minus : (k : FieldValue) → IsField k → (f g : Combination) → IsZero k (minus k f g) → HasSameValues k f g
+same_from_minus k is f g h w = same_from_difference k (value_at k f w) (value_at k g w) is (value_is_element k is f w) (value_is_element k is g w) (sym (value_at-minus k is f g w) ∙ h w)
+
+-- numbers that combinations with the same values have
+pub same_weights : (k : FieldValue) → IsField k → (φ : List ℕ → ℕ) (f g : Combination) → HasSameValues k f g → weight k φ f ≡ weight k φ g
+same_weights k is φ f g same =
+    same_from_difference k (weight k φ f) (weight k φ g) is (weight_is_element k is φ f) (weight_is_element k is φ g)
+    (ap (plus k (weight k φ f)) (sym (weight-scaled k is φ (negative k 1) g)) ∙ sym (weight-append k is φ f (scaled k (negative k 1) g)) ∙ weightless k is φ (minus k f g) (minus_is_zero k is f g same))
+
+-- combinations with the same values have images with the same values
+pub same_images : (k : FieldValue) → IsField k → (image : List ℕ → Combination) (f g : Combination) → HasSameValues k f g → HasSameValues k (extended k image f) (extended k image g)
+same_images k is image f g same w =
+    value_at-extended k is image f w ∙ same_weights k is (λ v. value_at k (image v) w) f g same ∙ sym (value_at-extended k is image g w)
+
+pub extended-append : (k : FieldValue) (image : List ℕ → Combination) (f g : Combination) → extended k image (f ++ g) ≡ extended k image f ++ extended k image g
+extended-append k image [] g = refl
+extended-append k image (t ∷ f) g =
+    ap (λ r. scaled k t.coefficient (image t.word) ++ r) (extended-append k image f g) ∙ sym (append_assoc (scaled k t.coefficient (image t.word)) (extended k image f) (extended k image g))
+
+pub extended-scaled : (k : FieldValue) → IsField k → (image : List ℕ → Combination) (c : ℕ) (f : Combination) → HasSameValues k (extended k image (scaled k c f)) (scaled k c (extended k image f))
+extended-scaled k is image c f w =
+    value_at-extended k is image (scaled k c f) w ∙ weight-scaled k is (λ v. value_at k (image v) w) c f
+    ∙ ap (times k c) (sym (value_at-extended k is image f w)) ∙ sym (value_at-scaled k is c (extended k image f) w)
+
+pub extended-single : (k : FieldValue) → IsField k → (image : List ℕ → Combination) (v : List ℕ) → HasSameValues k (extended k image (single v)) (image v)
+extended-single k is image v w =
+    value_at-append k is (scaled k 1 (image v)) [] w ∙ plus_zero k (value_at k (scaled k 1 (image v)) w) (value_is_element k is (scaled k 1 (image v)) w)
+    ∙ value_at-scaled k is 1 (image v) w ∙ one_times k (value_at k (image v) w) (value_is_element k is (image v) w)
+
+pub same_append : (k : FieldValue) → IsField k → (f g f' g' : Combination) → HasSameValues k f f' → HasSameValues k g g' → HasSameValues k (f ++ g) (f' ++ g')
+same_append k is f g f' g' p q w =
+    value_at-append k is f g w ∙ ap (λ n. plus k n (value_at k g w)) (p w) ∙ ap (plus k (value_at k f' w)) (q w) ∙ sym (value_at-append k is f' g' w)
+
+pub same_scaled : (k : FieldValue) → IsField k → (c : ℕ) (f g : Combination) → HasSameValues k f g → HasSameValues k (scaled k c f) (scaled k c g)
+same_scaled k is c f g p w = value_at-scaled k is c f w ∙ ap (times k c) (p w) ∙ sym (value_at-scaled k is c g w)
+
+-- a linear map of the difference is the difference of the images
+pub extended-minus : (k : FieldValue) → IsField k → (image : List ℕ → Combination) (f g : Combination) → HasSameValues k (extended k image (minus k f g)) (minus k (extended k image f) (extended k image g))
+extended-minus k is image f g w =
+    ap (λ h. value_at k h w) (extended-append k image f (scaled k (negative k 1) g))
+    ∙ same_append k is (extended k image f) (extended k image (scaled k (negative k 1) g)) (extended k image f) (scaled k (negative k 1) (extended k image g)) (λ v. refl) (extended-scaled k is image (negative k 1) g) w

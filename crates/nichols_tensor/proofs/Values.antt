@@ -1,0 +1,183 @@
+-- Values of combinations: of sums, of multiples, and of linear maps.
+use Rattle.std.proofs.Common.{◌≡◌, ℕ, zero, suc, ◌+◌, ◌<◌, ◌≤◌, Bool, true, false, not, cond, ◌&&◌, ◌||◌, ◌⊎◌, inl, inr, List, [], ◌∷◌, ◌++◌, map, length, refl, sym, ◌∙◌, ap, rules, arith, subst, nat_eq}
+use Rattle.std.specs.List.{flat_map, filter, list_all, list_any}
+use Rattle.std.specs.Cmp.Lexicographic.{same_text, other_text}
+use Rattle.std.specs.Cmp.Derive.{both_true}
+use Rattle.std.proofs.lemmas.Bool.Decides.{Decides-eqb}
+use Rattle.std.proofs.lemmas.Bool.{cases_Bool}
+use Rattle.nichols_field.specs.Field.{FieldValue, IsField, IsElement, plus, times, negative}
+use Rattle.nichols_field.proofs.FieldLaws.{plus_comm, plus_assoc, plus_zero, times_comm, times_assoc, times_plus, times_zero, times_one, zero_is_element, plus_is_element, times_is_element}
+use Rattle.nichols_field.proofs.FieldAlgebra.{zero_plus, zero_times, plus_times, swap_first, times_chosen, difference_of_same, same_from_difference}
+use Rattle.nichols_tensor.specs.Combination.{Term, Combination, value_at, HasSameValues, IsZero, is_zero, single, scaled, minus, extended, same_letters}
+
+pub value_is_element : (k : FieldValue) → IsField k → (f : Combination) (w : List ℕ) → IsElement k (value_at k f w)
+value_is_element k is [] w = zero_is_element k is
+value_is_element k is (t ∷ f) w = plus_is_element k (cond (same_letters t.word w) t.coefficient 0) (value_at k f w) is
+
+pub value_at-append : (k : FieldValue) → IsField k → (f g : Combination) (w : List ℕ) → value_at k (f ++ g) w ≡ plus k (value_at k f w) (value_at k g w)
+value_at-append k is [] g w = sym (zero_plus k (value_at k g w) (value_is_element k is g w))
+value_at-append k is (t ∷ f) g w = ap (plus k (cond (same_letters t.word w) t.coefficient 0)) (value_at-append k is f g w) ∙ sym (plus_assoc k (cond (same_letters t.word w) t.coefficient 0) (value_at k f w) (value_at k g w))
+
+pub value_at-scaled : (k : FieldValue) → IsField k → (c : ℕ) (f : Combination) (w : List ℕ) → value_at k (scaled k c f) w ≡ times k c (value_at k f w)
+value_at-scaled k is c [] w = sym (times_zero k c is)
+value_at-scaled k is c (t ∷ f) w =
+    ap (λ n. plus k n (value_at k (scaled k c f) w)) (sym (times_chosen k (same_letters t.word w) c t.coefficient is))
+    ∙ ap (plus k (times k c (cond (same_letters t.word w) t.coefficient 0))) (value_at-scaled k is c f w)
+    ∙ sym (times_plus k c (cond (same_letters t.word w) t.coefficient 0) (value_at k f w))
+
+pub value_at-minus : (k : FieldValue) → IsField k → (f g : Combination) (w : List ℕ) → value_at k (minus k f g) w ≡ plus k (value_at k f w) (times k (negative k 1) (value_at k g w))
+value_at-minus k is f g w = value_at-append k is f (scaled k (negative k 1) g) w ∙ ap (plus k (value_at k f w)) (value_at-scaled k is (negative k 1) g w)
+
+-- the sum of the coefficients, each times a number that its word has
+unfoldable pub weight : FieldValue → (List ℕ → ℕ) → Combination → ℕ
+weight k φ [] = 0
+weight k φ (t ∷ f) = plus k (times k t.coefficient (φ t.word)) (weight k φ f)
+
+pub weight_is_element : (k : FieldValue) → IsField k → (φ : List ℕ → ℕ) (f : Combination) → IsElement k (weight k φ f)
+unfolding weight
+weight_is_element k is φ [] = zero_is_element k is
+weight_is_element k is φ (t ∷ f) = plus_is_element k (times k t.coefficient (φ t.word)) (weight k φ f) is
+
+pub weight-append : (k : FieldValue) → IsField k → (φ : List ℕ → ℕ) (f g : Combination) → weight k φ (f ++ g) ≡ plus k (weight k φ f) (weight k φ g)
+unfolding weight
+weight-append k is φ [] g = sym (zero_plus k (weight k φ g) (weight_is_element k is φ g))
+weight-append k is φ (t ∷ f) g = ap (plus k (times k t.coefficient (φ t.word))) (weight-append k is φ f g) ∙ sym (plus_assoc k (times k t.coefficient (φ t.word)) (weight k φ f) (weight k φ g))
+
+pub weight-scaled : (k : FieldValue) → IsField k → (φ : List ℕ → ℕ) (c : ℕ) (f : Combination) → weight k φ (scaled k c f) ≡ times k c (weight k φ f)
+unfolding weight
+weight-scaled k is φ c [] = sym (times_zero k c is)
+weight-scaled k is φ c (t ∷ f) =
+    ap (plus k (times k (times k c t.coefficient) (φ t.word))) (weight-scaled k is φ c f)
+    ∙ ap (λ n. plus k n (times k c (weight k φ f))) (times_assoc k c t.coefficient (φ t.word))
+    ∙ sym (times_plus k c (times k t.coefficient (φ t.word)) (weight k φ f))
+
+pub value_at-extended : (k : FieldValue) → IsField k → (image : List ℕ → Combination) (f : Combination) (w : List ℕ) → value_at k (extended k image f) w ≡ weight k (λ v. value_at k (image v) w) f
+unfolding weight
+value_at-extended k is image [] w = refl
+value_at-extended k is image (t ∷ f) w =
+    value_at-append k is (scaled k t.coefficient (image t.word)) (extended k image f) w
+    ∙ ap (λ n. plus k n (value_at k (extended k image f) w)) (value_at-scaled k is t.coefficient (image t.word) w)
+    ∙ ap (plus k (times k t.coefficient (value_at k (image t.word) w))) (value_at-extended k is image f w)
+
+-- ---- a combination that is zero has weight 0
+
+-- the terms of other words
+abbrev pub without : List ℕ → Combination → Combination
+without v f = filter (λ t. not (same_letters t.word v)) f
+
+weight_step : (k : FieldValue) → IsField k → (φ : List ℕ → ℕ) (t : Term) (rest : Combination) (value p all : ℕ) → IsElement k value → all ≡ plus k (times k value p) (weight k φ rest) →
+    (b : Bool) → (b ≡ true → φ t.word ≡ p) →
+    plus k (times k t.coefficient (φ t.word)) all ≡ plus k (times k (plus k (cond b t.coefficient 0) value) p) (weight k φ (cond (not b) (t ∷ rest) rest))
+unfolding weight
+weight_step k is φ t rest value p all element e true h =
+    ap (plus k (times k t.coefficient (φ t.word))) e ∙ sym (plus_assoc k (times k t.coefficient (φ t.word)) (times k value p) (weight k φ rest))
+    ∙ ap (λ n. plus k (plus k (times k t.coefficient n) (times k value p)) (weight k φ rest)) (h refl)
+    ∙ ap (λ n. plus k n (weight k φ rest)) (sym (plus_times k t.coefficient value p))
+weight_step k is φ t rest value p all element e false h =
+    ap (plus k (times k t.coefficient (φ t.word))) e ∙ swap_first k (times k t.coefficient (φ t.word)) (times k value p) (weight k φ rest)
+    ∙ ap (λ n. plus k (times k n p) (plus k (times k t.coefficient (φ t.word)) (weight k φ rest))) (sym (zero_plus k value element))
+
+pub weight_split : (k : FieldValue) → IsField k → (φ : List ℕ → ℕ) (v : List ℕ) (f : Combination) → weight k φ f ≡ plus k (times k (value_at k f v) (φ v)) (weight k φ (without v f))
+unfolding weight
+weight_split k is φ v [] = sym (plus_zero k 0 (zero_is_element k is)) ∙ ap (λ n. plus k n 0) (sym (zero_times k (φ v) is))
+weight_split k is φ v (t ∷ f) =
+    weight_step k is φ t (without v f) (value_at k f v) (φ v) (weight k φ f) (value_is_element k is f v) (weight_split k is φ v f) (same_letters t.word v) (λ e. ap φ (same_text t.word v (sym e)))
+
+value_at-chosen : (k : FieldValue) (b : Bool) (t : Term) (r : Combination) (w : List ℕ) →
+    value_at k (cond b (t ∷ r) r) w ≡ cond b (plus k (cond (same_letters t.word w) t.coefficient 0) (value_at k r w)) (value_at k r w)
+value_at-chosen k true t r w = refl
+value_at-chosen k false t r w = refl
+
+-- b: the term's word is v; c: v is w; d: the term's word is w
+kept_step : (k : FieldValue) → IsField k → (b c d : Bool) (left value coefficient : ℕ) → IsElement k value → (b ≡ true → d ≡ c) → (c ≡ true → d ≡ b) → left ≡ cond c 0 value →
+    cond (not b) (plus k (cond d coefficient 0) left) left ≡ cond c 0 (plus k (cond d coefficient 0) value)
+kept_step k is true true d left value coefficient e h g ih = ih
+kept_step k is true false true left value coefficient e h g ih = absurd (cc (h refl))
+kept_step k is true false false left value coefficient e h g ih = ih ∙ sym (zero_plus k value e)
+kept_step k is false true true left value coefficient e h g ih = absurd (cc (g refl))
+kept_step k is false true false left value coefficient e h g ih = ap (plus k 0) ih ∙ plus_zero k 0 (zero_is_element k is)
+kept_step k is false false d left value coefficient e h g ih = ap (plus k (cond d coefficient 0)) ih
+
+-- what is left has the values of f, but 0 at v
+pub value_without : (k : FieldValue) → IsField k → (v : List ℕ) (f : Combination) (w : List ℕ) → value_at k (without v f) w ≡ cond (same_letters v w) 0 (value_at k f w)
+value_without k is v [] w = at (same_letters v w)
+  where
+    at : (b : Bool) → ◌≡◌ {A = ℕ} 0 (cond b 0 0)
+    at true = refl
+    at false = refl
+value_without k is v (t ∷ f) w =
+    value_at-chosen k (not (same_letters t.word v)) t (without v f) w
+    ∙ kept_step k is (same_letters t.word v) (same_letters v w) (same_letters t.word w) (value_at k (without v f) w) (value_at k f w) t.coefficient (value_is_element k is f w)
+    (λ e. ap (λ u. same_letters u w) (same_text t.word v (sym e)))
+    (λ e. ap (same_letters t.word) (sym (same_text v w (sym e))))
+    (value_without k is v f w)
+
+shorter : (v : List ℕ) (f : Combination) → length (without v f) ≤ length f
+shorter v [] = omega arith
+shorter v (t ∷ f) = at (same_letters t.word v) (shorter v f)
+  where
+    at : (b : Bool) → length (without v f) ≤ length f → length (cond (not b) (t ∷ without v f) (without v f)) ≤ suc (length f)
+    at true h = omega arith
+    at false h = omega arith
+
+pub same_itself : (v : List ℕ) → same_letters v v ≡ true
+same_itself [] = refl
+same_itself (x ∷ v) = both_true ((Decides-eqb x x).1 refl) (same_itself v)
+
+zero_left : (c : Bool) (n : ℕ) → n ≡ 0 → cond c 0 n ≡ 0
+zero_left true n e = refl
+zero_left false n e = e
+
+weightless_below : (n : ℕ) (k : FieldValue) → IsField k → (φ : List ℕ → ℕ) (f : Combination) → length f ≤ n → IsZero k f → weight k φ f ≡ 0
+unfolding weight
+weightless_below n k is φ [] short h = refl
+weightless_below zero k is φ (t ∷ f) short h = absurd (omega arith)
+weightless_below (suc n) k is φ (t ∷ f) short h =
+    let rest : Combination = without t.word (t ∷ f) in
+    let gone : rest ≡ without t.word f = ap (λ b. cond (not b) (t ∷ without t.word f) (without t.word f)) (same_itself t.word) in
+    let none : weight k φ rest ≡ 0 =
+    weightless_below n k is φ rest (subst (λ r. length r ≤ n) (sym gone) (omega (arith, shorter t.word f)))
+    (λ w. value_without k is t.word (t ∷ f) w ∙ zero_left (same_letters t.word w) (value_at k (t ∷ f) w) (h w)) in
+    weight_split k is φ t.word (t ∷ f) ∙ ap (λ n. plus k (times k n (φ t.word)) (weight k φ rest)) (h t.word) ∙ ap (λ n. plus k n (weight k φ rest)) (zero_times k (φ t.word) is) ∙ zero_plus k (weight k φ rest) (weight_is_element k is φ rest) ∙ none
+
+pub weightless : (k : FieldValue) → IsField k → (φ : List ℕ → ℕ) (f : Combination) → IsZero k f → weight k φ f ≡ 0
+weightless k is φ f h = weightless_below (length f) k is φ f (omega arith) h
+
+-- ---- the test of zero
+
+abbrev has_word : List ℕ → Combination → Bool
+has_word w f = list_any (λ t. same_letters t.word w) f
+
+abbrev zero_at_each : FieldValue → Combination → Combination → Bool
+zero_at_each k f g = list_all (λ t. nat_eq (value_at k f t.word) 0) g
+
+zero_there : (k : FieldValue) (f g : Combination) (w : List ℕ) → zero_at_each k f g ≡ true → has_word w g ≡ true → value_at k f w ≡ 0
+zero_there k f [] w all some = cc
+zero_there k f (t ∷ g) w all some = step (nat_eq (value_at k f t.word) 0) (zero_at_each k f g) (same_letters t.word w) (has_word w g) all some refl refl (λ a s. zero_there k f g w a s)
+  where
+    step : (a b c d : Bool) → (a && b) ≡ true → (c || d) ≡ true → nat_eq (value_at k f t.word) 0 ≡ a → same_letters t.word w ≡ c → (b ≡ true → d ≡ true → value_at k f w ≡ 0) → value_at k f w ≡ 0
+    step true true true d all some e h rest = ap (value_at k f) (sym (same_text t.word w (sym h))) ∙ (Decides-eqb (value_at k f t.word) 0).0 e
+    step true true false d all some e h rest = rest refl some
+    step true false c d all some e h rest = cc
+    step false b c d all some e h rest = cc
+
+-- at a word that no term has the value is 0
+pub zero_elsewhere : (k : FieldValue) → IsField k → (f : Combination) (w : List ℕ) → has_word w f ≡ false → value_at k f w ≡ 0
+zero_elsewhere k is [] w none = refl
+zero_elsewhere k is (t ∷ f) w none = step (same_letters t.word w) (has_word w f) none (λ n. zero_elsewhere k is f w n)
+  where
+    step : (c d : Bool) → (c || d) ≡ false → (d ≡ false → value_at k f w ≡ 0) → plus k (cond c t.coefficient 0) (value_at k f w) ≡ 0
+    step true d none rest = cc
+    step false d none rest = ap (plus k 0) (rest none) ∙ plus_zero k 0 (zero_is_element k is)
+
+pub is_zero_sound : (k : FieldValue) → IsField k → (f : Combination) → is_zero k f ≡ true → IsZero k f
+unfolding is_zero
+is_zero_sound k is f h w = elim (cases_Bool (has_word w f)) [ inl some ↦ zero_there k f f w h some | inr none ↦ zero_elsewhere k is f w none ]
+
+pub is_zero_complete : (k : FieldValue) (f : Combination) → IsZero k f → is_zero k f ≡ true
+unfolding is_zero
+is_zero_complete k f h = each f
+  where
+    each : (g : Combination) → zero_at_each k f g ≡ true
+    each [] = refl
+    each (t ∷ g) = both_true ((Decides-eqb (value_at k f t.word) 0).1 (h t.word)) (each g)

@@ -1,0 +1,5 @@
+pub mod Members
+pub mod Combination
+pub mod WordOrder
+pub mod Words
+pub mod Laws
