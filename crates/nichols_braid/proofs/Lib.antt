@@ -1,1 +1,5 @@
 mod WorkedRows
+pub mod Prepend
+pub mod Entries
+pub mod Search
+pub mod Accepted

@@ -5,3 +5,6 @@ pub mod Symmetrizer
 pub mod Derivation
 pub mod Kernel
 pub mod Least
+pub mod Faults
+pub mod Given
+pub mod Tables

@@ -1,2 +1,11 @@
 //! Braids of rack type, with the definitions of the Nichols algebra.
 #![tactic(auto)]
+
+mod braid;
+mod cocycle_law;
+mod faults;
+mod rack_laws;
+mod tables;
+
+pub use braid::Braid;
+pub use faults::{BraidFault, Scalars};

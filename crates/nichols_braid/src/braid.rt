@@ -1,0 +1,96 @@
+//! Braids.
+
+ghost use Rattle.std.specs.Prelude.{◌≡◌, ◌≢◌, ◌⊎◌, IfOk, MatchResult, Ok, Err, map};
+ghost use Rattle.nichols_braid.specs.Braid.{IsBraid, IsLetter, act, scalar};
+ghost use Rattle.nichols_field.specs.Field.{IsElement};
+ghost use Rattle.nichols_braid.specs.Faults.{braid_of};
+ghost use Rattle.nichols_braid.specs.Given.{given};
+
+use nichols_field::Field;
+use std::alloc::{AllocError, Global};
+use std::marker::Model;
+
+/// A braiding of rack type: a rack of 1 to 24 letters with a 2-cocycle.
+///
+/// The letters are the numbers from 1 to n. The source is Andruskiewitsch and Graña,
+/// "From racks to pointed Hopf algebras".
+#[derive(Drop)]
+pub struct Braid {
+    field: Field,
+    letters: u8,
+    rack: Vec<u8>,
+    cocycle: Vec<u32>,
+}
+
+impl Model for Braid {
+    ghost use Rattle.nichols_braid.specs.Braid.{BraidValue, IsBraid};
+
+    ghost Value = { BraidValue };
+
+    ghost view = { λ b. record { field = b.field; letters = b.letters; rack = b.rack.items; cocycle = b.cocycle.items } };
+
+    ghost invariant = { λ b. IsBraid (record { field = b.field; letters = b.letters; rack = b.rack.items; cocycle = b.cocycle.items }) };
+}
+
+impl Braid {
+    /// The field; a caller learns here, too, that it has a braid.
+    pub fn field(&self) -> Field
+        ensures field { result ≡ self.now.field }
+        ensures braid { IsBraid self.now }
+    {
+        self.field
+    }
+
+    /// The number of letters, from 1 to 24.
+    pub fn letters(&self) -> u8
+        ensures { result ≡ self.now.letters }
+    {
+        self.letters
+    }
+
+    /// The letter `i ▷ j`.
+    #[tactic(auto, unfolding(crate::specs::Braid::entry))]
+    pub fn act(&self, i: u8, j: u8) -> u8
+        requires left { IsLetter self.now i }
+        requires right { IsLetter self.now j }
+        ensures value { result ≡ act self.now i j }
+        ensures letter { IsLetter self.now result }
+    {
+        let n = usize::from(self.letters);
+        self.rack[(usize::from(i) - 1) * n + (usize::from(j) - 1)]
+    }
+
+    /// The scalar `q(i, j)`.
+    #[tactic(auto, unfolding(crate::specs::Braid::entry))]
+    pub fn scalar(&self, i: u8, j: u8) -> u32
+        requires left { IsLetter self.now i }
+        requires right { IsLetter self.now j }
+        ensures value { result ≡ scalar self.now i j }
+        ensures element { IsElement self.now.field result }
+        ensures nonzero { result ≢ 0 }
+    {
+        let n = usize::from(self.letters);
+        self.cocycle[(usize::from(i) - 1) * n + (usize::from(j) - 1)]
+    }
+
+    /// The braiding of two letters: `i ▷ j`, i and `q(i, j)`.
+    pub fn braid_at(&self, i: u8, j: u8) -> (u8, u8, u32)
+        requires left { IsLetter self.now i }
+        requires right { IsLetter self.now j }
+        ensures { result ≡ record { 0 = act self.now i j; 1 = i; 2 = scalar self.now i j } }
+    {
+        (self.act(i, j), i, self.scalar(i, j))
+    }
+
+    /// An equal braid.
+    pub fn copy(&self, alloc: Global) -> Result<Braid, AllocError>
+        ensures { IfOk result (λ b. b ≡ self.now) }
+    {
+        Ok(Braid {
+            field: self.field,
+            letters: self.letters,
+            rack: self.rack.as_slice().to_vec(alloc)?,
+            cocycle: self.cocycle.as_slice().to_vec(alloc)?,
+        })
+    }
+}
