@@ -6,6 +6,9 @@ ghost use Rattle.nichols_field.specs.Field.{IsElement};
 ghost use Rattle.nichols_braid.specs.Faults.{braid_of};
 ghost use Rattle.nichols_braid.specs.Given.{given};
 
+use crate::cocycle_law::is_cocycle;
+use crate::faults::{BraidFault, RackLaw, Scalars};
+use crate::tables::{RackTable, cocycle_table};
 use nichols_field::Field;
 use std::alloc::{AllocError, Global};
 use std::marker::Model;
@@ -33,6 +36,44 @@ impl Model for Braid {
 }
 
 impl Braid {
+    /// The braid with these rows and scalars.
+    ///
+    /// Row i of `rack` has the letter `i ▷ j` at place j, from 1; the scalars are taken as residues, a constant at every place.
+    pub fn new(
+        alloc: Global,
+        field: Field,
+        rack: &[Vec<i64>],
+        scalars: &Scalars,
+    ) -> Result<Braid, BraidFault>
+        ensures { MatchResult result
+            (λ b. braid_of field (map (λ row. row.items) rack.now) (given scalars.now) ≡ Ok b)
+            (λ e. (e ≡ BraidFault.Memory) ⊎ (braid_of field (map (λ row. row.items) rack.now) (given scalars.now) ≡ Err e)) }
+    {
+        let _modulus = field.modulus();
+        let Some(table) = RackTable::read(alloc, rack)? else {
+            return Err(BraidFault::Unbuilt);
+        };
+        if let Some(fault) = table.fault(RackLaw::Bijective) {
+            return Err(fault);
+        }
+        if let Some(fault) = table.fault(RackLaw::Distributive) {
+            return Err(fault);
+        }
+        let Some(cocycle) = cocycle_table(alloc, field, table.letters, scalars)? else {
+            return Err(BraidFault::Unbuilt);
+        };
+        if !is_cocycle(field, &table, cocycle.as_slice()) {
+            return Err(BraidFault::Unbuilt);
+        }
+        let RackTable { letters, entries } = table;
+        Ok(Braid {
+            field,
+            letters,
+            rack: entries,
+            cocycle,
+        })
+    }
+
     /// The field; a caller learns here, too, that it has a braid.
     pub fn field(&self) -> Field
         ensures field { result ≡ self.now.field }

@@ -1,5 +1,10 @@
 //! Why rows and scalars aren't a braid.
 
+ghost use Rattle.nichols_braid.specs.declared.faults.BraidFault.TheVariants.{Memory};
+ghost use Rattle.std.specs.Prelude.{◌≡◌};
+
+use std::alloc::AllocError;
+
 /// The scalars of a braid, as they are given.
 #[derive(Debug, Drop)]
 pub enum Scalars {
@@ -28,4 +33,12 @@ pub(crate) enum RackLaw {
     Bijective,
     /// `i ▷ (j ▷ k)` is `(i ▷ j) ▷ (i ▷ k)`.
     Distributive,
+}
+
+impl From<AllocError> for BraidFault {
+    ghost from_gives = { λ _ fault. fault ≡ Memory };
+
+    fn from(_error: AllocError) -> BraidFault {
+        BraidFault::Memory
+    }
 }

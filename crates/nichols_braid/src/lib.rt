@@ -9,3 +9,6 @@ mod tables;
 
 pub use braid::Braid;
 pub use faults::{BraidFault, Scalars};
+
+#[cfg(test)]
+mod tests;
