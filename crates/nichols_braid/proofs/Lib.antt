@@ -1,1 +1,6 @@
 mod WorkedRows
+pub mod Maps
+pub mod Rule
+pub mod Letters
+pub mod Killed
+pub mod BraidLaws

@@ -5,3 +5,7 @@ pub mod Symmetrizer
 pub mod Derivation
 pub mod Kernel
 pub mod Least
+pub mod RightProduct
+pub mod LinearTest
+pub mod LinearMap
+pub mod Laws
