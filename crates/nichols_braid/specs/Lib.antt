@@ -9,3 +9,4 @@ pub mod RightProduct
 pub mod LinearTest
 pub mod LinearMap
 pub mod Laws
+pub mod Rearrangement
