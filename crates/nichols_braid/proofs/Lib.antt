@@ -4,3 +4,6 @@ pub mod Rule
 pub mod Letters
 pub mod Killed
 pub mod BraidLaws
+pub mod Rearranged
+pub mod Counts
+pub mod Permutations

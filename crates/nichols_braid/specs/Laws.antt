@@ -2,7 +2,8 @@
 use Rattle.std.specs.Prelude.{◌≡◌, ℕ, suc, true, [], ◌++◌, if◌then◌else◌, nat_eq}
 use Rattle.nichols_tensor.specs.Combination.{Combination, HasSameValues, scaled}
 use Rattle.nichols_braid.specs.Braid.{BraidValue, IsBraid, IsLetter, act, scalar}
-use Rattle.nichols_braid.specs.Symmetrizer.{symmetrized}
+use Rattle.nichols_braid.specs.Symmetrizer.{permutations, symmetrized}
+use Rattle.nichols_braid.specs.Rearrangement.{HoldsEachOnce}
 use Rattle.nichols_braid.specs.Derivation.{derived}
 use Rattle.nichols_braid.specs.Kernel.{IsKilled, IsInKernel, is_killed, is_in_kernel}
 use Rattle.nichols_braid.specs.RightProduct.{times_letter}
@@ -45,3 +46,7 @@ KilledIsLinear = (braid : BraidValue) → IsBraid braid → (m : ℕ) → IsLine
 -- the kernel is a linear subspace
 abbrev pub KernelIsLinear : Type 0
 KernelIsLinear = (braid : BraidValue) → IsBraid braid → (m : ℕ) → IsLinearTest braid.field (is_in_kernel braid m)
+
+-- the list of permutations of m places holds each rearrangement of 1 to m exactly once
+abbrev pub PermutationsHoldEachOnce : Type 0
+PermutationsHoldEachOnce = (m : ℕ) → HoldsEachOnce m (permutations m)

@@ -1,6 +1,6 @@
 //! Laws of the symmetrizer and of the skew derivations, for every braid and every length.
 
-ghost use Rattle.nichols_braid.specs.Laws.{SymmetrizerIsLinear, DerivationsAreLinear, DerivationRule, KilledIsRightIdeal, KilledIsDecided, KernelIsDecided, KilledIsLinear, KernelIsLinear};
+ghost use Rattle.nichols_braid.specs.Laws.{PermutationsHoldEachOnce, SymmetrizerIsLinear, DerivationsAreLinear, DerivationRule, KilledIsRightIdeal, KilledIsDecided, KernelIsDecided, KilledIsLinear, KernelIsLinear};
 
 /// The quantum symmetrizer is linear.
 #[tactic(auto, using(crate::proofs::BraidLaws::symmetrizer_is_linear))]
@@ -46,4 +46,9 @@ pub fn killed_is_linear()
 /// The kernel sees values alone, and is kept by sums and multiples.
 pub fn kernel_is_linear()
     ensures { KernelIsLinear }
+{}
+
+/// The list of permutations of m places holds each rearrangement of 1 to m exactly once.
+pub fn permutations_hold_each_once()
+    ensures { PermutationsHoldEachOnce }
 {}
