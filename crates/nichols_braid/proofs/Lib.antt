@@ -4,3 +4,11 @@ pub mod Entries
 pub mod Search
 pub mod Accepted
 pub mod Made
+pub mod Maps
+pub mod Rule
+pub mod Letters
+pub mod Killed
+pub mod BraidLaws
+pub mod Rearranged
+pub mod Counts
+pub mod Permutations

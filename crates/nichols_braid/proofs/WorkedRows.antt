@@ -1,10 +1,10 @@
 -- Worked rows over the three transpositions with 101 elements and scalar -1: lifts, images and derivatives.
-use Rattle.std.proofs.Common.{◌≡◌, ℕ, List, [], ◌∷◌, ◌++◌, refl, Bool, true, false}
+use Rattle.std.proofs.Common.{◌≡◌, ℕ, List, [], ◌∷◌, refl, true}
 use Rattle.nichols_field.proofs.OnNumerals.{field_on_numerals}
-use Rattle.nichols_tensor.specs.Combination.{Term, Combination, value_at, single, is_zero, minus}
+use Rattle.nichols_tensor.specs.Combination.{Term, Combination, single, is_zero}
 use Rattle.nichols_tensor.specs.Words.{words, words_before, combinations}
 use Rattle.nichols_braid.specs.Braid.{BraidValue, entry}
-use Rattle.nichols_braid.specs.Lift.{lift, bubble}
+use Rattle.nichols_braid.specs.Lift.{lift}
 use Rattle.nichols_braid.specs.Symmetrizer.{permutations, lifts, symmetrized}
 use Rattle.nichols_braid.specs.Derivation.{derived_word, derived}
 use Rattle.nichols_braid.specs.Kernel.{is_in_kernel, is_killed}

@@ -8,3 +8,8 @@ pub mod Least
 pub mod Faults
 pub mod Given
 pub mod Tables
+pub mod RightProduct
+pub mod LinearTest
+pub mod LinearMap
+pub mod Laws
+pub mod Rearrangement

@@ -1,5 +1,5 @@
 -- Permutations of places, by their end places: entry j says where the letter at place j ends. Their positive lifts.
-use Rattle.std.specs.Prelude.{◌≡◌, ℕ, zero, suc, ◌+◌, ◌*◌, ◌<◌, ◌≤◌, List, [], ◌∷◌, length, Option, None, Some, if◌then◌else◌, nat_lt}
+use Rattle.std.specs.Prelude.{ℕ, zero, suc, ◌+◌, ◌*◌, ◌<◌, ◌≤◌, List, [], ◌∷◌, length, Option, None, Some, if◌then◌else◌, nat_lt}
 use Rattle.std.specs.Option.{option_map, option_map_or}
 use Rattle.nichols_tensor.specs.Combination.{Term}
 use Rattle.nichols_braid.specs.Braid.{BraidValue}

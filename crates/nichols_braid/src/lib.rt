@@ -4,6 +4,7 @@
 mod braid;
 mod cocycle_law;
 mod faults;
+pub mod laws;
 mod rack_laws;
 mod tables;
 

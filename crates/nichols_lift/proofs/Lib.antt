@@ -1,0 +1,7 @@
+pub mod Acted
+pub mod Step
+pub mod Bubble
+pub mod Sorted
+pub mod Reduced
+pub mod LiftLaws
+mod WorkedRows

@@ -1,0 +1,31 @@
+-- Worked rows over the three transpositions with 101 elements and scalar -1: closed forms of lifts.
+use Rattle.std.proofs.Common.{◌≡◌, ℕ, List, [], ◌∷◌, refl}
+use Rattle.nichols_field.proofs.OnNumerals.{field_on_numerals}
+use Rattle.nichols_tensor.specs.Combination.{Term}
+use Rattle.nichols_braid.specs.Braid.{BraidValue, entry}
+use Rattle.nichols_braid.specs.Crossing.{crossed}
+use Rattle.nichols_lift.specs.ClosedForm.{closed_form}
+
+abbrev three : BraidValue
+three = record {
+  field = 101;
+  letters = 3;
+  rack = 1 ∷ 3 ∷ 2 ∷ 3 ∷ 2 ∷ 1 ∷ 2 ∷ 1 ∷ 3 ∷ [];
+  cocycle = 100 ∷ 100 ∷ 100 ∷ 100 ∷ 100 ∷ 100 ∷ 100 ∷ 100 ∷ 100 ∷ [];
+}
+
+abbrev term : List ℕ → ℕ → Term
+term w c = record { word = w; coefficient = c }
+
+closed_321 : closed_form three (3 ∷ 2 ∷ 1 ∷ []) (1 ∷ 2 ∷ 3 ∷ []) ≡ term (1 ∷ 3 ∷ 1 ∷ []) 100
+unfolding field_on_numerals entry closed_form
+closed_321 = refl
+
+closed_312 : closed_form three (3 ∷ 1 ∷ 2 ∷ []) (1 ∷ 2 ∷ 3 ∷ []) ≡ term (3 ∷ 2 ∷ 1 ∷ []) 1
+unfolding field_on_numerals entry closed_form
+closed_312 = refl
+
+-- the other list of crossings for the end places 3, 2, 1
+crossed_212 : crossed three (2 ∷ 1 ∷ 2 ∷ []) (term (1 ∷ 2 ∷ 3 ∷ []) 1) ≡ term (1 ∷ 3 ∷ 1 ∷ []) 100
+unfolding field_on_numerals entry
+crossed_212 = refl

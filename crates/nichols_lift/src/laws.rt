@@ -1,0 +1,11 @@
+//! The laws that turn the quantum symmetrizer, a sum over all permutations, into something that can be computed.
+//!
+//! They hold for every braid and every length (Heckenberger and Schneider, "Hopf Algebras and Root Systems").
+
+ghost use Rattle.nichols_lift.specs.Laws.{ReducedListsAgree};
+
+/// Reduced lists agree: the crossings of every descending list of a permutation lead to the word and the scalar of its lift,
+/// and these are the closed form, in which each letter is acted on by the earlier ones that end to its right, the nearest first.
+pub fn reduced_lists_agree()
+    ensures { ReducedListsAgree }
+{}
