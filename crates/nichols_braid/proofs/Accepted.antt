@@ -10,7 +10,8 @@ use Rattle.std.proofs.Math.Nat.{suc-mul, mul-le-mul}
 use Rattle.nichols_field.specs.Field.{FieldValue, IsField, IsElement, times}
 use Rattle.nichols_tensor.specs.Members.{IsIn}
 use Rattle.nichols_tensor.specs.Words.{up_to, IsLetterOf}
-use Rattle.nichols_tensor.proofs.Entries.{in_left, in_right, in_either, of_each}
+use Rattle.nichols_tensor.proofs.Entries.{of_each}
+use Rattle.nichols_braid.proofs.Letters.{in_up_to}
 use Rattle.nichols_braid.specs.Braid.{BraidValue, entry, act, scalar, IsLetter, IsRack, IsCocycle, IsBraid}
 use Rattle.nichols_braid.specs.Faults.{first_answer, first_triple, rack_fault_at, rack_fault, is_cocycle, cocycle_holds_at, braid_of, with_rack, with_cocycle, unless_fault, rack_table, cocycle_table, GivenScalars}
 use Rattle.nichols_braid.specs.Tables.{IsRackTable, IsCocycleTable}
@@ -18,26 +19,6 @@ use Rattle.nichols_braid.specs.declared.faults.BraidFault.{BraidFault}
 use Rattle.nichols_braid.specs.declared.faults.BraidFault.TheVariants.{NotDistributive, Unbuilt}
 use Rattle.nichols_braid.specs.declared.faults.RackLaw.{RackLaw}
 use Rattle.nichols_braid.specs.declared.faults.RackLaw.TheVariants.{Bijective, Distributive}
-
--- each letter is listed
-pub letter_is_listed : (n a : ℕ) → IsLetterOf n a → IsIn a (up_to n)
-unfolding IsIn
-letter_is_listed zero a h = absurd (omega arith)
-letter_is_listed (suc n) a h =
-    elim (cases_lt a (suc n)) [
-      | inl less ↦ in_left a (up_to n) (suc n ∷ []) (letter_is_listed n a (h.0, omega arith))
-      | inr more ↦ in_right a (up_to n) (suc n ∷ []) (inl (omega arith))
-    ]
-
-pub listed_is_letter : (n a : ℕ) → IsIn a (up_to n) → IsLetterOf n a
-unfolding IsIn
-listed_is_letter zero a h = absurd h
-listed_is_letter (suc n) a h =
-    elim (in_either a (up_to n) (suc n ∷ []) h) [
-      | inl before ↦ let i : IsLetterOf n a = listed_is_letter n a before in (i.0, omega arith)
-      | inr (inl e) ↦ (omega arith, omega arith)
-      | inr (inr none) ↦ absurd none
-    ]
 
 -- ---- entries of tables
 
@@ -79,9 +60,9 @@ unfolding rack_fault
 no_fault n rack law none i j k li lj lk =
     no_answer (rack_fault_at n rack law i j) (up_to n)
     (no_answer (λ j. first_answer (rack_fault_at n rack law i j) (up_to n)) (up_to n)
-    (no_answer (λ i. first_answer (λ j. first_answer (rack_fault_at n rack law i j) (up_to n)) (up_to n)) (up_to n) none i (letter_is_listed n i li))
-    j (letter_is_listed n j lj))
-    k (letter_is_listed n k lk)
+    (no_answer (λ i. first_answer (λ j. first_answer (rack_fault_at n rack law i j) (up_to n)) (up_to n)) (up_to n) none i (in_up_to n i li))
+    j (in_up_to n j lj))
+    k (in_up_to n k lk)
 
 differ : (n : ℕ) (rack : List ℕ) (i j k : ℕ) → rack_fault_at n rack Bijective i j k ≡ None → j < k → entry n rack i j ≢ entry n rack i k
 differ n rack i j k none less same = at (nat_lt j k) (nat_eq (entry n rack i j) (entry n rack i k)) (let h : nat_lt j k ≡ true = grind (arith, nat_tests) in h) ((Decides-eqb (entry n rack i j) (entry n rack i k)).1 same) none
@@ -141,8 +122,8 @@ accepted k is n rack cocycle table bijective distributive scalars lawful =
         law = λ i j l li lj ll. (Decides-eqb _ _).0
             (of_each (cocycle_holds_at (braid_with k n rack cocycle) i j) l (up_to n)
             (of_each (λ j. list_all (cocycle_holds_at (braid_with k n rack cocycle) i j) (up_to n)) j (up_to n)
-            (of_each (λ i. list_all (λ j. list_all (cocycle_holds_at (braid_with k n rack cocycle) i j) (up_to n)) (up_to n)) i (up_to n) parts.1 (letter_is_listed n i li))
-            (letter_is_listed n j lj))
-            (letter_is_listed n l ll));
+            (of_each (λ i. list_all (λ j. list_all (cocycle_holds_at (braid_with k n rack cocycle) i j) (up_to n)) (up_to n)) i (up_to n) parts.1 (in_up_to n i li))
+            (in_up_to n j lj))
+            (in_up_to n l ll));
       };
     }
