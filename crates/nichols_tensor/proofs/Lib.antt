@@ -2,3 +2,5 @@ pub mod Entries
 pub mod Values
 pub mod Linear
 pub mod Enumeration
+pub mod Order
+pub mod Over

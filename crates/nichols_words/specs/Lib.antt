@@ -1,0 +1,3 @@
+pub mod Word
+pub mod Inline
+pub mod Fields
