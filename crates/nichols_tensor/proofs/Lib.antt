@@ -4,3 +4,5 @@ pub mod Linear
 pub mod Enumeration
 pub mod Order
 pub mod Over
+pub mod Ordered
+pub mod Building
