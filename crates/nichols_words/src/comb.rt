@@ -1,9 +1,10 @@
 //! Combinations of words.
 
-ghost use Rattle.std.specs.Prelude.{◌≡◌, IfOk, List, ℕ, []};
+ghost use Rattle.std.specs.Prelude.{◌≡◌, ◌++◌, IfOk, List, ℕ, []};
 ghost use Rattle.nichols_field.specs.Field.{IsElement, plus, times};
-ghost use Rattle.nichols_tensor.specs.Combination.{AllElements, value_at};
+ghost use Rattle.nichols_tensor.specs.Combination.{AllAmong, AllElements, value_at, words_of};
 ghost use Rattle.nichols_tensor.specs.WordOrder.{IsOrdered};
+ghost use Rattle.nichols_tensor.specs.Words.{HasDegree, IsOver};
 
 use crate::Term;
 use crate::merge::merge;
@@ -63,7 +64,13 @@ impl Comb {
         ensures value { IfOk result (λ r. (w : List ℕ) → value_at field r w ≡ plus field (value_at field self.now w) (times field by (value_at field other.now w))) }
         ensures shape { IfOk result IsOrdered }
         ensures elements { IfOk result (AllElements field) }
+
+        // No words but those of the two: so letters stay letters, and degrees stay degrees.
+        ensures words { IfOk result (λ r. AllAmong r (words_of self.now ++ words_of other.now)) }
+        ensures letters { IfOk result (λ r. (n : ℕ) → IsOver n self.now → IsOver n other.now → IsOver n r) }
+        ensures degree { IfOk result (λ r. (m : ℕ) → HasDegree m self.now → HasDegree m other.now → HasDegree m r) }
     {
+        let _modulus = field.modulus();
         let terms = merge(alloc, field, by, self.terms(), other.terms())?;
         Ok(Comb { terms })
     }

@@ -24,12 +24,7 @@ pub fn multiplied(field: Field, by: u32, term: &Term) -> Term
 }
 
 /// The next term of the sum, and what is left of both sides: the lesser word of the two first ones comes first.
-fn next<'a>(
-    field: Field,
-    by: u32,
-    xs: &'a [Term],
-    ys: &'a [Term],
-) -> (Term, &'a [Term], &'a [Term])
+fn next<'a>(field: Field, by: u32, xs: &'a [Term], ys: &'a [Term]) -> (Term, &'a [Term], &'a [Term])
     requires factor { IsElement field by }
     requires left { AllElements field xs.now }
     requires right { AllElements field ys.now }
