@@ -1,0 +1,105 @@
+//! Words of at most 60 letters, kept inline.
+
+ghost use Rattle.std.specs.Prelude.{◌≡◌, ◌<◌, ◌≤◌, ◌↔◌, ◌++◌, ◌∷◌, [], IsTrue, length, take, slice_index};
+ghost use Rattle.std.specs.Bool.{OnTrue, OnFalse};
+ghost use Rattle.nichols_tensor.specs.Words.{IsLetterOf};
+ghost use Rattle.nichols_words.specs.Word.{IsWord, letter_limit, word_limit};
+
+use std::marker::Model;
+
+/// A word of at most 60 letters, each of them from 1 to 24.
+///
+/// Words are ordered by length, and words of one length by their letters from the left.
+#[derive(Clone, Copy)]
+pub struct Word {
+    len: usize,
+    letters: [u8; 60],
+}
+
+impl Model for Word {
+    ghost use Rattle.std.specs.Prelude.{ℕ, List, take};
+    ghost use Rattle.nichols_words.specs.Inline.{IsInline};
+
+    ghost Value = { List ℕ };
+
+    ghost view = { λ w. take w.len w.letters };
+
+    ghost invariant = { λ w. IsInline w.len w.letters };
+
+    ghost use Rattle.nichols_words.specs.Fields.{fields_of, fields_back};
+
+    ghost inverse = { fields_of };
+
+    ghost inverse_ok = { fields_back };
+}
+
+impl Word {
+    /// The empty word.
+    pub fn empty() -> Word
+        ensures { result ≡ [] }
+    {
+        Word {
+            len: 0,
+            letters: [0; 60],
+        }
+    }
+
+    /// The number of letters.
+    pub fn len(&self) -> usize
+        ensures value { result ≡ length self.now }
+        ensures limit { result ≤ word_limit }
+    {
+        self.len
+    }
+
+    /// Whether the word has no letters.
+    pub fn is_empty(&self) -> bool
+        ensures { IsTrue result ↔ (self.now ≡ []) }
+    {
+        self.len == 0
+    }
+
+    /// The letter at index k, which counts from 0.
+    pub fn letter(&self, k: usize) -> u8
+        requires { k < length self.now }
+        ensures value { result ≡ slice_index self.now k }
+        ensures letter { IsLetterOf letter_limit result }
+    {
+        self.letters[k]
+    }
+
+    /// The letters in order.
+    ///
+    /// A caller learns here, too, what holds of each word: how long it is, and which letters it has.
+    pub fn letters(&self) -> &[u8]
+        ensures same { result.now ≡ self.now }
+        ensures word { IsWord self.now }
+    {
+        &self.letters[..self.len]
+    }
+
+    /// The word of the first k letters.
+    pub fn prefix(&self, k: usize) -> Word
+        requires { k ≤ length self.now }
+        ensures { result ≡ take k self.now }
+    {
+        let mut letters = self.letters;
+        letters[k..].fill(0);
+        Word { len: k, letters }
+    }
+
+    /// Puts a letter behind the others. A full word, of 60 letters, stays as it is, and the answer is false.
+    pub fn push(&mut self, letter: u8) -> bool
+        requires { IsLetterOf letter_limit letter }
+        ensures room { IsTrue result ↔ (length self.old < word_limit) }
+        ensures pushed { OnTrue result (self.new ≡ self.old ++ letter ∷ []) }
+        ensures full { OnFalse result (self.new ≡ self.old) }
+    {
+        if self.len == 60 {
+            return false;
+        }
+        self.letters[self.len] = letter;
+        self.len += 1;
+        true
+    }
+}
