@@ -1,0 +1,12 @@
+//! Sources of bytes and sinks for them, with the reading of a whole source and the writing of a whole piece.
+#![tactic(auto)]
+
+pub use reading::{ReadFault, read_all};
+pub use sinks::{Put, Sink};
+pub use sources::{Got, Source};
+pub use writing::put_all;
+
+pub mod reading;
+pub mod sinks;
+pub mod sources;
+pub mod writing;
