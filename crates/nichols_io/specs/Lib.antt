@@ -2,3 +2,4 @@ pub mod Counts
 pub mod Bytes
 pub mod Source
 pub mod Sink
+pub mod Memory
