@@ -13,4 +13,6 @@ pub mod reading;
 pub mod sinks;
 pub mod sources;
 pub mod standard;
+#[cfg(test)]
+mod tests;
 pub mod writing;

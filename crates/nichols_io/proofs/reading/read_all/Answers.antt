@@ -5,6 +5,8 @@ use Rattle.nichols_io.proofs.reading.read_all.Goals as goal
 
 pub returns-then-is_err-clause-memory : goal.returns-then-is_err-clause-memory
 returns-then-is_err-clause-memory g c _ =
-    let came = take c.in-Bytes.count c.read.new.buf in
-    (_, Consumes-trans _ _ _ c.reading.all.items came c.reading.invariant.bytes c.in-Bytes.ensures.bytes.2,
-    omega (arith, length-append c.reading.all.items came, length-take {A = ℕ}, c.in-Bytes.ensures.bytes.1))
+    let came = take c.in-Bytes.count c.read.new.buf in (
+      _,
+      Consumes-trans _ _ _ c.reading.all.items came c.reading.invariant.bytes c.in-Bytes.ensures.bytes.2,
+      omega (arith, length-append c.reading.all.items came, length-take {A = ℕ}, c.in-Bytes.ensures.bytes.1),
+    )
