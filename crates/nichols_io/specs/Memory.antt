@@ -1,5 +1,5 @@
 -- What contracts see of the sources and sinks in memory.
-use Rattle.std.specs.Prelude.{◌≡◌, ℕ, List, drop, ⊤}
+use Rattle.std.specs.Prelude.{◌≡◌, ℕ, List, drop}
 use Rattle.nichols_io.specs.declared.sources.Got.{Got}
 use Rattle.nichols_io.specs.declared.sources.Got.TheVariants.{Bytes, End, Failed}
 use Rattle.nichols_io.specs.declared.sinks.Put.{Put}
@@ -26,12 +26,6 @@ pub record MemorySinkState : Type 0 where
   pub calls : ℕ
   pub faults : ℕ
 
--- a read that gives bytes gives so many
-abbrev pub Gives : Got → ℕ → Type 0
-Gives (Bytes k) n = k ≡ n
-Gives End n = ⊤
-Gives Failed n = ⊤
-
 -- a read changes no byte of the buffer beyond those that it gives
 abbrev pub KeepsRest : Got → List ℕ → List ℕ → Type 0
 KeepsRest (Bytes k) before after = drop k after ≡ drop k before
@@ -43,11 +37,6 @@ abbrev pub CountsRead : Got → ℕ → ℕ → Type 0
 CountsRead (Bytes k) before after = after ≡ before
 CountsRead End before after = after ≡ before
 CountsRead Failed before after = after ≡ following before
-
--- a write that takes bytes takes so many
-abbrev pub Takes : Put → ℕ → Type 0
-Takes (Took k) n = k ≡ n
-Takes PutFailed n = ⊤
 
 -- a count of faults rises by one at a write that fails, and stays at each other
 abbrev pub CountsWrite : Put → ℕ → ℕ → Type 0

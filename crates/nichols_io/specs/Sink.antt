@@ -13,3 +13,8 @@ Writes Failed piece before after = Keeps before after
 abbrev pub OnWriteFailed : Put → Type 0 → Type 0
 OnWriteFailed (Took k) P = ⊤
 OnWriteFailed Failed P = P
+
+-- a fact of the count of bytes taken
+abbrev pub IfTook : Put → (ℕ → Type 0) → Type 0
+IfTook (Took k) P = P k
+IfTook Failed P = ⊤

@@ -15,3 +15,9 @@ abbrev pub OnReadFailed : Got → Type 0 → Type 0
 OnReadFailed (Bytes k) P = ⊤
 OnReadFailed End P = ⊤
 OnReadFailed Failed P = P
+
+-- a fact of the count of bytes that came
+abbrev pub IfBytes : Got → (ℕ → Type 0) → Type 0
+IfBytes (Bytes k) P = P k
+IfBytes End P = ⊤
+IfBytes Failed P = ⊤

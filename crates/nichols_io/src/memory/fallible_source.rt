@@ -1,9 +1,9 @@
 //! A source in memory that gives its bytes in chunks and fails where it is told to.
 
-ghost use Rattle.std.specs.Prelude.{◌≡◌, ◌+◌, ◌<◌, ◌≤◌, ◌↔◌, length, min, Contains, Some};
+ghost use Rattle.std.specs.Prelude.{◌≡◌, ◌<◌, ◌≤◌, ◌↔◌, length, min, Contains, Some};
 ghost use Rattle.nichols_io.specs.Counts.{Rose, following};
-ghost use Rattle.nichols_io.specs.Source.{Reads, OnReadFailed};
-ghost use Rattle.nichols_io.specs.Memory.{Gives, KeepsRest, CountsRead};
+ghost use Rattle.nichols_io.specs.Source.{Reads, OnReadFailed, IfBytes};
+ghost use Rattle.nichols_io.specs.Memory.{KeepsRest, CountsRead};
 
 use super::steady_source::SteadySource;
 use crate::sources::{Got, Source};
@@ -55,7 +55,7 @@ impl Source for MemorySource {
     fn read(&mut self, buf: &mut [u8]) -> Got
         requires { 0 < length buf.old }
         ensures bytes { Reads result buf.new (Some self.old.left) (Some self.new.left) }
-        ensures amount { Gives result (min (min self.old.chunk (length self.old.left)) (length buf.old)) }
+        ensures amount { IfBytes result (λ k. k ≡ min (min self.old.chunk (length self.old.left)) (length buf.old)) }
         ensures rest { KeepsRest result buf.old buf.new }
         ensures cause { OnReadFailed result (Rose self.old.faults self.new.faults) }
         ensures count { self.old.faults ≤ self.new.faults }

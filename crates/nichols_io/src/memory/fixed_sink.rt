@@ -2,8 +2,8 @@
 
 ghost use Rattle.std.specs.Prelude.{◌≡◌, ◌+◌, ◌<◌, ◌≤◌, ◌↔◌, ◌⊎◌, [], length, min, Contains, IfOk, Some};
 ghost use Rattle.nichols_io.specs.Counts.{Rose, following};
-ghost use Rattle.nichols_io.specs.Sink.{Writes, OnWriteFailed};
-ghost use Rattle.nichols_io.specs.Memory.{Takes, CountsWrite};
+ghost use Rattle.nichols_io.specs.Sink.{Writes, OnWriteFailed, IfTook};
+ghost use Rattle.nichols_io.specs.Memory.{CountsWrite};
 
 use crate::sinks::{Put, Sink};
 use std::alloc::{AllocError, Global};
@@ -69,7 +69,7 @@ impl Sink for MemorySink {
     fn write(&mut self, piece: &[u8]) -> Put
         requires { 0 < length piece.now }
         ensures bytes { Writes result piece.now (Some self.old.taken) (Some self.new.taken) }
-        ensures amount { Takes result (min (min self.old.most self.old.room) (length piece.now)) }
+        ensures amount { IfTook result (λ k. k ≡ min (min self.old.most self.old.room) (length piece.now)) }
         ensures cause { OnWriteFailed result (Rose self.old.faults self.new.faults) }
         ensures count { self.old.faults ≤ self.new.faults }
 

@@ -1,8 +1,8 @@
 //! A source in memory that never fails.
 
-ghost use Rattle.std.specs.Prelude.{◌≡◌, ◌≢◌, ◌+◌, ◌<◌, ◌≤◌, length, min, take, drop, ◌++◌, Some};
-ghost use Rattle.nichols_io.specs.Source.{Reads};
-ghost use Rattle.nichols_io.specs.Memory.{Gives, KeepsRest};
+ghost use Rattle.std.specs.Prelude.{◌≡◌, ◌≢◌, ◌+◌, ◌<◌, ◌≤◌, length, min, take, drop, Some};
+ghost use Rattle.nichols_io.specs.Source.{Reads, IfBytes};
+ghost use Rattle.nichols_io.specs.Memory.{KeepsRest};
 
 use crate::sources::{Got, Source};
 use std::marker::Model;
@@ -42,7 +42,7 @@ impl Source for SteadySource {
     fn read(&mut self, buf: &mut [u8]) -> Got
         requires { 0 < length buf.old }
         ensures bytes { Reads result buf.new (Some self.old) (Some self.new) }
-        ensures amount { Gives result (min (length self.old) (length buf.old)) }
+        ensures amount { IfBytes result (λ k. k ≡ min (length self.old) (length buf.old)) }
         ensures steady { result ≢ Got.Failed }
         ensures rest { KeepsRest result buf.old buf.new }
     {
