@@ -20,3 +20,8 @@ ConsumesAtMost before after n = (bytes : List ℕ) × Consumes before after byte
 -- the bytes grew by a prefix of the piece, and not by the whole
 abbrev pub AppendsProperPrefix : Option (List ℕ) → Option (List ℕ) → List ℕ → Type 0
 AppendsProperPrefix before after piece = (k : ℕ) × (k < length piece) × Appends before after (take k piece)
+
+-- more than n bytes were left
+abbrev pub IsLonger : Option (List ℕ) → ℕ → Type 0
+IsLonger None n = ⊤
+IsLonger (Some bytes) n = n < length bytes

@@ -3,7 +3,7 @@
 ghost use Rattle.std.specs.Prelude.{◌≡◌, ◌+◌, ◌≤◌, length, IfOk, Err};
 ghost use Rattle.std.specs.Io.KnownBytes.{Consumes, IsAtEnd};
 ghost use Rattle.nichols_io.specs.Counts.{Rose};
-ghost use Rattle.nichols_io.specs.Bytes.{TellsAlike, ConsumesExactly, ConsumesAtMost};
+ghost use Rattle.nichols_io.specs.Bytes.{TellsAlike, ConsumesExactly, ConsumesAtMost, IsLonger};
 
 use crate::sources::{Got, Source};
 use std::alloc::Global;
@@ -35,6 +35,7 @@ pub fn read_all<S: Source>(
     // Each error, and what was taken from the source by then.
     ensures failed { result ≡ Err ReadFault.Failed → Rose (S.faults source.old) (S.faults source.new) }
     ensures failed_within { result ≡ Err ReadFault.Failed → ConsumesAtMost (S.left source.old) (S.left source.new) limit }
+    ensures longer { result ≡ Err ReadFault.TooLong → IsLonger (S.left source.old) limit }
     ensures too_long { result ≡ Err ReadFault.TooLong → ConsumesExactly (S.left source.old) (S.left source.new) (limit + 1) }
     ensures memory { result ≡ Err ReadFault.Memory → ConsumesAtMost (S.left source.old) (S.left source.new) (limit + 1) }
 

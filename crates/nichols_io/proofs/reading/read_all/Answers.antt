@@ -1,4 +1,4 @@
-use Rattle.std.proofs.Common.{ℕ, arith, length-append, take, length}
+use Rattle.std.proofs.Common.{ℕ, arith, length-append, take}
 use Rattle.std.proofs.lemmas.List.{length-take}
 use Rattle.std.proofs.KnownBytes.{Consumes-trans}
 use Rattle.nichols_io.proofs.reading.read_all.Goals as goal

@@ -1,6 +1,6 @@
 use Rattle.std.proofs.Common.{arith, ◌∙◌, sym, ap, take, drop}
 use Rattle.nichols_io.proofs.MemoryLemmas.{consumed_front}
-use Rattle.nichols_io.proofs.memory.steady_source.SteadySourceSource.read.Goals as goal
+use Rattle.nichols_io.proofs.steady_source.SteadySourceSource.read.Goals as goal
 
 pub returns-clause-bytes : goal.returns-clause-bytes
 returns-clause-bytes c =

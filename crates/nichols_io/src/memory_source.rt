@@ -5,8 +5,8 @@ ghost use Rattle.nichols_io.specs.Counts.{Rose, following};
 ghost use Rattle.nichols_io.specs.Source.{Reads, OnReadFailed, IfBytes};
 ghost use Rattle.nichols_io.specs.Memory.{KeepsRest, CountsRead};
 
-use super::steady_source::SteadySource;
 use crate::sources::{Got, Source};
+use crate::steady_source::SteadySource;
 use std::marker::Model;
 
 /// Bytes in memory as a source that gives them in chunks and fails at chosen calls.
