@@ -1,9 +1,14 @@
 -- What the laws of this crate say.
-use Rattle.std.specs.Prelude.{◌≡◌, ℕ, List, length}
-use Rattle.nichols_tensor.specs.Words.{IsWordOver}
+use Rattle.std.specs.Prelude.{◌≡◌, ℕ, suc, List, length}
+use Rattle.std.specs.List.{flat_map}
+use Rattle.nichols_tensor.specs.Combination.{Combination, HasSameValues}
+use Rattle.nichols_tensor.specs.Words.{up_to, IsWordOver, IsOver, HasDegree}
 use Rattle.nichols_braid.specs.Braid.{BraidValue, IsBraid}
 use Rattle.nichols_braid.specs.Crossing.{crossed}
 use Rattle.nichols_braid.specs.Lift.{IsDescending, lift}
+use Rattle.nichols_braid.specs.Symmetrizer.{symmetrized}
+use Rattle.nichols_braid.specs.Derivation.{derived}
+use Rattle.nichols_braid.specs.RightProduct.{times_letter}
 use Rattle.nichols_braid.specs.Rearrangement.{IsRearrangement}
 use Rattle.nichols_lift.specs.ClosedForm.{closed_form}
 
@@ -13,3 +18,9 @@ ReducedListsAgree =
     (braid : BraidValue) → IsBraid braid → (m : ℕ) (ends w : List ℕ) → IsRearrangement m ends → length w ≡ m → IsWordOver braid.letters w →
     (lift braid ends w ≡ closed_form braid ends w)
     × ((places : List ℕ) → IsDescending ends places → crossed braid places (record { word = w; coefficient = 1 }) ≡ lift braid ends w)
+
+-- the quantum symmetrizer of m + 1 places is the sum, over all letters a, of that of m places after the skew derivation by a, with a put behind
+abbrev pub SymmetrizerFactors : Type 0
+SymmetrizerFactors =
+    (braid : BraidValue) → IsBraid braid → (m : ℕ) (f : Combination) → HasDegree (suc m) f → IsOver braid.letters f →
+    HasSameValues braid.field (symmetrized braid f) (flat_map (λ a. times_letter (symmetrized braid (derived braid a f)) a) (up_to braid.letters))
