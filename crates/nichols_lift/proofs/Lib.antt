@@ -9,3 +9,5 @@ pub mod Chain
 pub mod Summands
 pub mod Totals
 pub mod Factorisation
+pub mod Degrees
+pub mod Kernel
