@@ -1,9 +1,15 @@
 -- What the laws of this crate say.
-use Rattle.std.specs.Prelude.{◌≡◌, ℕ, List, length}
-use Rattle.nichols_tensor.specs.Words.{IsWordOver}
-use Rattle.nichols_braid.specs.Braid.{BraidValue, IsBraid}
+use Rattle.std.specs.Prelude.{◌≡◌, ℕ, suc, List, length}
+use Rattle.std.specs.List.{flat_map}
+use Rattle.nichols_tensor.specs.Combination.{Combination, HasSameValues}
+use Rattle.nichols_tensor.specs.Words.{up_to, IsWordOver, IsOver, HasDegree}
+use Rattle.nichols_braid.specs.Braid.{BraidValue, IsBraid, IsLetter}
 use Rattle.nichols_braid.specs.Crossing.{crossed}
 use Rattle.nichols_braid.specs.Lift.{IsDescending, lift}
+use Rattle.nichols_braid.specs.Symmetrizer.{symmetrized}
+use Rattle.nichols_braid.specs.Derivation.{derived}
+use Rattle.nichols_braid.specs.Kernel.{IsInKernel, IsKilled}
+use Rattle.nichols_braid.specs.RightProduct.{times_letter}
 use Rattle.nichols_braid.specs.Rearrangement.{IsRearrangement}
 use Rattle.nichols_lift.specs.ClosedForm.{closed_form}
 
@@ -13,3 +19,19 @@ ReducedListsAgree =
     (braid : BraidValue) → IsBraid braid → (m : ℕ) (ends w : List ℕ) → IsRearrangement m ends → length w ≡ m → IsWordOver braid.letters w →
     (lift braid ends w ≡ closed_form braid ends w)
     × ((places : List ℕ) → IsDescending ends places → crossed braid places (record { word = w; coefficient = 1 }) ≡ lift braid ends w)
+
+-- the quantum symmetrizer of m + 1 places is the sum, over all letters a, of that of m places after the skew derivation by a, with a put behind
+abbrev pub SymmetrizerFactors : Type 0
+SymmetrizerFactors =
+    (braid : BraidValue) → IsBraid braid → (m : ℕ) (f : Combination) → HasDegree (suc m) f → IsOver braid.letters f →
+    HasSameValues braid.field (symmetrized braid f) (flat_map (λ a. times_letter (symmetrized braid (derived braid a f)) a) (up_to braid.letters))
+
+-- a combination of degree m is in the kernel of the symmetrizer exactly where all chains of m derivations kill it
+abbrev pub KernelByDerivations : Type 0
+KernelByDerivations =
+    (braid : BraidValue) → IsBraid braid → (m : ℕ) (f : Combination) → HasDegree m f → IsOver braid.letters f → (IsInKernel braid f → IsKilled braid m f) × (IsKilled braid m f → IsInKernel braid f)
+
+-- where f is in the kernel, so is `f x_b`, for each letter b
+abbrev pub KernelIsRightIdeal : Type 0
+KernelIsRightIdeal =
+    (braid : BraidValue) → IsBraid braid → (m : ℕ) (f : Combination) (b : ℕ) → HasDegree m f → IsOver braid.letters f → IsLetter braid b → IsInKernel braid f → IsInKernel braid (times_letter f b)
