@@ -13,3 +13,6 @@ pub use comb::Comb;
 pub use relation::Relation;
 pub use term::Term;
 pub use word::Word;
+
+#[cfg(test)]
+mod tests;
