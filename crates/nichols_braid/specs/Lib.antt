@@ -8,5 +8,6 @@ pub mod Least
 pub mod RightProduct
 pub mod LinearTest
 pub mod LinearMap
-pub mod Laws
 pub mod Rearrangement
+pub mod IdealTest
+pub mod Laws
