@@ -1,4 +1,5 @@
 mod WorkedRows
+pub mod Lists
 pub mod Maps
 pub mod Rule
 pub mod Letters
