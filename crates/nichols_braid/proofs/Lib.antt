@@ -4,6 +4,7 @@ pub mod Entries
 pub mod Search
 pub mod Accepted
 pub mod Made
+pub mod Lists
 pub mod Maps
 pub mod Rule
 pub mod Letters
@@ -12,3 +13,6 @@ pub mod BraidLaws
 pub mod Rearranged
 pub mod Counts
 pub mod Permutations
+pub mod WordLists
+pub mod Degrees
+pub mod Prefixes

@@ -11,6 +11,7 @@ pub mod Tables
 pub mod RightProduct
 pub mod LinearTest
 pub mod LinearMap
-pub mod Laws
 pub mod Rearrangement
 pub mod End
+pub mod IdealTest
+pub mod Laws
