@@ -12,3 +12,5 @@ pub mod BraidLaws
 pub mod Rearranged
 pub mod Counts
 pub mod Permutations
+pub mod Congruences
+pub mod LeastWords
