@@ -17,10 +17,6 @@ use Rattle.nichols_braid.specs.LinearTest.{IsLinearTest}
 use Rattle.nichols_braid.specs.LeastLaws.{IsOfEarlierWords, IsLeastWord}
 use Rattle.nichols_braid.proofs.Congruences.{AreCongruent, congruent_right}
 
--- the test of zero in the degree of a word
-abbrev pub test_at : Vanishing → BraidValue → List ℕ → Combination → Bool
-test_at vanishes braid w = vanishes braid (length w)
-
 -- a word that is congruent to a combination of the words before it isn't least
 pub not_least : (vanishes : Vanishing) (braid : BraidValue) → IsField braid.field → (w : List ℕ) → IsLinearTest braid.field (vanishes braid (length w)) →
     (f : Combination) → AllAmong f (words_before braid.letters w) → AreCongruent braid.field (vanishes braid (length w)) (single w) f → is_least vanishes braid w ≡ false
@@ -56,6 +52,23 @@ least_unless vanishes braid w none = at (is_least vanishes braid w) refl
     at : (b : Bool) → is_least vanishes braid w ≡ b → is_least vanishes braid w ≡ true
     at true e = e
     at false e = let (f, among, elements, h) = not_least_form vanishes braid w e in absurd (none f among elements h)
+
+-- ---- the same for a word of m letters
+
+pub not_least_at : (vanishes : Vanishing) (braid : BraidValue) → IsField braid.field → (m : ℕ) → IsLinearTest braid.field (vanishes braid m) → (w : List ℕ) → length w ≡ m →
+    (f : Combination) → AllAmong f (words_before braid.letters w) → AreCongruent braid.field (vanishes braid m) (single w) f → is_least vanishes braid w ≡ false
+not_least_at vanishes braid is m l w e f among h =
+    not_least vanishes braid is w (subst (λ d. IsLinearTest braid.field (vanishes braid d)) (sym e) l) f among (subst (λ d. AreCongruent braid.field (vanishes braid d) (single w) f) (sym e) h)
+
+pub not_least_form_at : (vanishes : Vanishing) (braid : BraidValue) (m : ℕ) (w : List ℕ) → length w ≡ m → is_least vanishes braid w ≡ false →
+    (f : Combination) × AllAmong f (words_before braid.letters w) × AllElements braid.field f × AreCongruent braid.field (vanishes braid m) (single w) f
+not_least_form_at vanishes braid m w e h =
+    let (f, among, elements, c) = not_least_form vanishes braid w h in
+    (f, among, elements, subst (λ d. AreCongruent braid.field (vanishes braid d) (single w) f) e c)
+
+pub least_refutes_at : (vanishes : Vanishing) (braid : BraidValue) → IsField braid.field → (m : ℕ) → IsLinearTest braid.field (vanishes braid m) → (w : List ℕ) → length w ≡ m → is_least vanishes braid w ≡ true →
+    (f : Combination) → AllAmong f (words_before braid.letters w) → AreCongruent braid.field (vanishes braid m) (single w) f → ⊥
+least_refutes_at vanishes braid is m l w e least f among h = let c : true ≡ false = sym least ∙ not_least_at vanishes braid is m l w e f among h in cc
 
 -- ---- the words before a word, as a reader sees them
 

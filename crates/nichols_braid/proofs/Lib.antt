@@ -14,3 +14,5 @@ pub mod Counts
 pub mod Permutations
 pub mod Congruences
 pub mod LeastWords
+pub mod Reduction
+pub mod Independence

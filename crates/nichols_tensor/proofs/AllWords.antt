@@ -7,7 +7,8 @@ use Rattle.std.specs.Cmp.Lexicographic.{slice_cmp}
 use Rattle.std.specs.declared.cmp.Ordering.{Ordering}
 use Rattle.std.specs.declared.cmp.Ordering.TheVariants.{Less, Equal, Greater}
 use Rattle.nichols_tensor.specs.Members.{IsIn}
-use Rattle.nichols_tensor.specs.Words.{up_to, IsWordOver, words, words_before}
+use Rattle.nichols_tensor.specs.Combination.{Combination, AllAmong}
+use Rattle.nichols_tensor.specs.Words.{up_to, IsWordOver, IsOver, HasDegree, words, words_before}
 use Rattle.nichols_tensor.specs.WordOrder.{word_cmp, IsRising}
 use Rattle.nichols_tensor.proofs.Entries.{in_map, in_flat_map, from_map, from_flat_map, in_filter, from_filter}
 use Rattle.nichols_tensor.proofs.Letters.{in_up_to, from_up_to}
@@ -139,3 +140,20 @@ last_less u a b less =
     itself : (v : List ℕ) → slice_cmp nat_cmp v v ≡ Equal
     itself [] = refl
     itself (c ∷ v) = ap (λ o. ordering_then o (slice_cmp nat_cmp v v)) (number_same c c refl) ∙ itself v
+
+-- ---- combinations of these words
+
+pub among_words : (n m : ℕ) (f : Combination) → HasDegree m f → IsOver n f → AllAmong f (words n m)
+unfolding AllAmong
+among_words n m [] d o = tt
+among_words n m (t ∷ f) d o = (in_words n m t.word d.0 o.0, among_words n m f d.1 o.1)
+
+pub degree_among_words : (n m : ℕ) (f : Combination) → AllAmong f (words n m) → HasDegree m f
+unfolding AllAmong
+degree_among_words n m [] a = tt
+degree_among_words n m (t ∷ f) a = ((from_words n m t.word a.0).0, degree_among_words n m f a.1)
+
+pub over_among_words : (n m : ℕ) (f : Combination) → AllAmong f (words n m) → IsOver n f
+unfolding AllAmong
+over_among_words n m [] a = tt
+over_among_words n m (t ∷ f) a = ((from_words n m t.word a.0).1, over_among_words n m f a.1)

@@ -1,5 +1,5 @@
 -- Lists of words that rise: when they do, where their words stand, and that the words alone determine such a list.
-use Rattle.std.proofs.Common.{◌≡◌, ℕ, zero, suc, ◌<◌, Bool, true, false, cond, List, [], ◌∷◌, ◌++◌, map, length, refl, sym, ◌∙◌, ap, ap₂, subst, arith, ◌⊎◌, inl, inr}
+use Rattle.std.proofs.Common.{◌≡◌, ℕ, zero, suc, ◌<◌, Bool, true, false, cond, List, [], ◌∷◌, ◌++◌, map, length, refl, sym, ◌∙◌, ap, ap₂, subst, arith, ◌⊎◌, inl, inr, append_assoc}
 use Rattle.std.specs.Prelude.{slice_index_or}
 use Rattle.std.specs.List.{flat_map, filter, AllByRecursion}
 use Rattle.std.specs.Ordering.{is_lt}
@@ -182,3 +182,37 @@ rising_unique (v ∷ vs) (u ∷ us) r s h k =
     rest : (w x : List ℕ) (xs : List (List ℕ)) {y : List ℕ} → word_cmp y w ≡ Less → y ≡ x → IsIn w (x ∷ xs) → IsIn w xs
     rest w x xs {y = y} less e (inl same) = absurd (less_is_other y w less (e ∙ sym same))
     rest w x xs less e (inr i) = i
+
+-- ---- induction along a list that rises
+
+walk : (ws : List (List ℕ)) (R : List ℕ → Type 0) → IsRising ws → ((w : List ℕ) → IsIn w ws → ((v : List ℕ) → IsIn v ws → word_cmp v w ≡ Less → R v) → R w) →
+    (vs us : List (List ℕ)) → ws ≡ vs ++ us → ((v : List ℕ) → IsIn v vs → R v) → (v : List ℕ) → IsIn v ws → R v
+unfolding IsIn
+walk ws R r s vs [] e h v i = elim (in_either v vs [] (subst (IsIn v) e i)) [ inl j ↦ h v j | inr j ↦ absurd j ]
+walk ws R r s vs (w ∷ us) e h v i = walk ws R r s (vs ++ w ∷ []) us (e ∙ sym (append_assoc vs (w ∷ []) us)) more v i
+  where
+    front : (x : List ℕ) → IsIn x (vs ++ w ∷ us) → word_cmp x w ≡ Less → IsIn x vs
+    front x j less =
+        elim (in_either x vs (w ∷ us) j) [
+          | inl k ↦ k
+          | inr k ↦ elim k [
+            | inl same ↦ absurd (less_is_other x w less same)
+            | inr later ↦ let c : Greater ≡ Less = sym (greater_back w x (stands_after vs w us x (subst IsRising e r) later)) ∙ less in cc
+          ]
+        ]
+
+    here : R w
+    here = s w (subst (IsIn w) (sym e) (in_right w vs (w ∷ us) (inl refl))) (λ x j less. h x (front x (subst (IsIn x) e j) less))
+
+    more : (x : List ℕ) → IsIn x (vs ++ w ∷ []) → R x
+    more x j =
+        elim (in_either x vs (w ∷ []) j) [
+          | inl k ↦ h x k
+          | inr k ↦ elim k [ inl same ↦ subst R (sym same) here | inr none ↦ absurd none ]
+        ]
+
+-- what holds of each word of which it holds of all words of the list before it holds of all words of the list
+pub by_earlier : (ws : List (List ℕ)) (R : List ℕ → Type 0) → IsRising ws → ((w : List ℕ) → IsIn w ws → ((v : List ℕ) → IsIn v ws → word_cmp v w ≡ Less → R v) → R w) →
+    (w : List ℕ) → IsIn w ws → R w
+unfolding IsIn
+by_earlier ws R r s w i = walk ws R r s [] ws refl (λ v j. absurd j) w i
