@@ -16,3 +16,4 @@ pub mod Congruences
 pub mod LeastWords
 pub mod Reduction
 pub mod Independence
+pub mod NormalForms
