@@ -17,3 +17,5 @@ pub mod LeastWords
 pub mod Reduction
 pub mod Independence
 pub mod NormalForms
+pub mod Candidates
+pub mod Agreement

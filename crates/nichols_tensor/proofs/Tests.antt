@@ -1,6 +1,6 @@
 -- Tests and functions that agree on the entries of a list.
 use Rattle.std.proofs.Common.{◌≡◌, Bool, true, false, cond, ◌||◌, List, [], ◌∷◌, map, refl, sym, ◌∙◌, ap, ap₂, inl, inr}
-use Rattle.std.specs.List.{filter, find, list_any}
+use Rattle.std.specs.List.{filter, find, list_any, AllByRecursion}
 use Rattle.std.specs.Prelude.{Option, Some}
 use Rattle.nichols_tensor.specs.Members.{IsIn}
 
@@ -29,3 +29,9 @@ pub map_same : {X Y : Type 0} (f g : X → Y) (xs : List X) → ((x : X) → IsI
 unfolding IsIn
 map_same f g [] h = refl
 map_same f g (x ∷ xs) h = ap₂ (λ y ys. y ∷ ys) (h x (inl refl)) (map_same f g xs (λ y i. h y (inr i)))
+
+-- what holds of each entry, one after the other
+pub all_of_entries : {X : Type 0} (P : X → Type 0) (xs : List X) → ((x : X) → IsIn x xs → P x) → AllByRecursion P xs
+unfolding IsIn
+all_of_entries P [] h = tt
+all_of_entries P (x ∷ xs) h = (h x (inl refl), all_of_entries P xs (λ y i. h y (inr i)))
