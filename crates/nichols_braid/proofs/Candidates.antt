@@ -78,9 +78,9 @@ candidates_rise vanishes braid (suc m) =
     (ordered_of (λ u v. word_cmp u v ≡ Less) (λ u. length u ≡ m) ws (all_ordered_words ws (basis_rises vanishes braid m)) (all_of_entries (λ u. length u ≡ m) ws (λ u i. (from_basis vanishes braid m u i).0)))
     (λ u i. with_letters_rise u (up_to n) (up_to_rises n))
     (λ u v x y r i j.
-      let (a, l, e) = from_map (λ b. u ++ b ∷ []) x (up_to n) i in
-      let (b, o, d) = from_map (λ c. v ++ c ∷ []) y (up_to n) j in
-      subst (λ z. word_cmp z y ≡ Less) (sym e) (subst (λ z. word_cmp (u ++ a ∷ []) z ≡ Less) (sym d) (push_less u v a b (r.1 ∙ sym r.2) r.0)))
+    let (a, l, e) = from_map (λ b. u ++ b ∷ []) x (up_to n) i in
+    let (b, o, d) = from_map (λ c. v ++ c ∷ []) y (up_to n) j in
+    subst (λ z. word_cmp z y ≡ Less) (sym e) (subst (λ z. word_cmp (u ++ a ∷ []) z ≡ Less) (sym d) (push_less u v a b (r.1 ∙ sym r.2) r.0)))
 
 -- ---- least words and relations of a list, word by word
 

@@ -114,9 +114,11 @@ reduced_sum : (k : FieldValue) → IsField k → (test : Combination → Bool) �
 reduced_sum k is test l P [] h = ([], tt, congruent_same k is test l [] [] (λ w. refl))
 reduced_sum k is test l P (t ∷ f) h =
     let (g, a, c) = h.0 in
-    let (r, b, d) = reduced_sum k is test l P f h.1 in
-    (scaled k t.coefficient g ++ r, all-append (λ u. P u.word) (scaled k t.coefficient g) r (all-scaled P k t.coefficient g a) b,
-    congruent-append k is test l (scaled k t.coefficient (single t.word)) (scaled k t.coefficient g) (extended k single f) r (congruent-scaled k is test l t.coefficient (single t.word) g c) d)
+    let (r, b, d) = reduced_sum k is test l P f h.1 in (
+      scaled k t.coefficient g ++ r,
+      all-append (λ u. P u.word) (scaled k t.coefficient g) r (all-scaled P k t.coefficient g a) b,
+      congruent-append k is test l (scaled k t.coefficient (single t.word)) (scaled k t.coefficient g) (extended k single f) r (congruent-scaled k is test l t.coefficient (single t.word) g c) d,
+    )
 
 -- a combination is, where each of its words is
 pub reduced_of_each : (k : FieldValue) → IsField k → (test : Combination → Bool) → IsLinearTest k test → (P : List ℕ → Type 0) (f : Combination) → AllByRecursion (λ t. IsReduced k test P (single t.word)) f → IsReduced k test P f

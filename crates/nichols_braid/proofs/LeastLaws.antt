@@ -32,8 +32,8 @@ basis_has_least_words vanishes braid is m l = (basis_rises vanishes braid m, lis
       degree = λ i. (from_basis vanishes braid m w i).0;
       over = λ i. (from_basis vanishes braid m w i).1;
       least = λ i.
-      let from : (length w ≡ m) × IsWordOver braid.letters w × (is_least vanishes braid w ≡ true) = from_basis vanishes braid m w i in
-      least_word_from_test vanishes braid is w (subst (λ d. IsLinearTest braid.field (vanishes braid d)) (sym from.0) l) from.2;
+          let from : (length w ≡ m) × IsWordOver braid.letters w × (is_least vanishes braid w ≡ true) = from_basis vanishes braid m w i in
+          least_word_from_test vanishes braid is w (subst (λ d. IsLinearTest braid.field (vanishes braid d)) (sym from.0) l) from.2;
     }
 
 pub least_words_are_independent : BasisIsIndependent

@@ -110,6 +110,8 @@ reduced_to_basis vanishes braid is m l f among =
   where
     each : (f : Combination) → AllAmong f (words braid.letters m) → AllByRecursion (λ t. IsReduced braid.field (vanishes braid m) (λ v. IsIn v (basis vanishes braid m)) (single t.word)) f
     each [] h = tt
-    each (t ∷ f) h =
-        (reduced_weaker braid.field (vanishes braid m) (λ v. IsIn v (basis vanishes braid m) × IsUpTo t.word v) (λ v. IsIn v (basis vanishes braid m)) (single t.word) (λ v p. p.0)
-        (reduced_word vanishes braid is m l t.word h.0), each f h.1)
+    each (t ∷ f) h = (
+      reduced_weaker braid.field (vanishes braid m) (λ v. IsIn v (basis vanishes braid m) × IsUpTo t.word v) (λ v. IsIn v (basis vanishes braid m)) (single t.word) (λ v p. p.0)
+          (reduced_word vanishes braid is m l t.word h.0),
+      each f h.1,
+    )

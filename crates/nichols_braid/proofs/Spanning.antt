@@ -64,9 +64,11 @@ times_letter-minus k f g b = times_letter-append f (scaled k (negative k 1) g) b
 with_letter : (vanishes : Vanishing) (braid : BraidValue) → IsRightIdeal vanishes braid → (m : ℕ) (u : List ℕ) (b : ℕ) → length u ≡ m → IsLetter braid b →
     IsReduced braid.field (vanishes braid m) (λ v. IsIn v (basis vanishes braid m) × IsUpTo u v) (single u) →
     IsReduced braid.field (vanishes braid (suc m)) (λ v. IsIn v (candidates vanishes braid (suc m)) × IsUpTo (u ++ b ∷ []) v) (single (u ++ b ∷ []))
-with_letter vanishes braid ideal m u b e letter (g, a, c) =
-    (times_letter g b, each g a,
-    subst (λ h. vanishes braid (suc m) h ≡ true) (times_letter-minus braid.field (single u) g b) (ideal m (minus braid.field (single u) g) b letter c))
+with_letter vanishes braid ideal m u b e letter (g, a, c) = (
+  times_letter g b,
+  each g a,
+  subst (λ h. vanishes braid (suc m) h ≡ true) (times_letter-minus braid.field (single u) g b) (ideal m (minus braid.field (single u) g) b letter c),
+)
   where
     at : (v : List ℕ) → length v ≡ m → IsUpTo u v → IsUpTo (u ++ b ∷ []) (v ++ b ∷ [])
     at v d (inl same) = inl (ap (λ x. x ++ b ∷ []) same)
@@ -126,8 +128,8 @@ pub basis_among : (vanishes : Vanishing) (braid : BraidValue) → IsField braid.
 basis_among vanishes braid is m l ws s =
     rising_unique (basis vanishes braid m) (least_of vanishes braid ws) (basis_rises vanishes braid m) (rising-filter (is_least vanishes braid) ws s.rising)
     (λ w i.
-      let from : (length w ≡ m) × IsWordOver braid.letters w × (is_least vanishes braid w ≡ true) = from_basis vanishes braid m w i in
-      in_filter (is_least vanishes braid) w ws (least_is_listed vanishes braid is m l ws s w from.0 from.1 from.2) from.2)
+    let from : (length w ≡ m) × IsWordOver braid.letters w × (is_least vanishes braid w ≡ true) = from_basis vanishes braid m w i in
+    in_filter (is_least vanishes braid) w ws (least_is_listed vanishes braid is m l ws s w from.0 from.1 from.2) from.2)
     (λ w i. let (j, least) = from_filter (is_least vanishes braid) w ws i in in_basis vanishes braid m w (s.degree w j) (s.over w j) least)
 
 -- ---- reduction to the entries
@@ -146,6 +148,8 @@ reduced_to_entries vanishes braid is m l ws s f among = reduced_of_each braid.fi
   where
     each : (f : Combination) → AllAmong f (words braid.letters m) → AllByRecursion (λ t. IsReduced braid.field (vanishes braid m) (λ v. IsIn v ws) (single t.word)) f
     each [] h = tt
-    each (t ∷ f) h =
-        (reduced_weaker braid.field (vanishes braid m) (λ v. IsIn v ws × IsUpTo t.word v) (λ v. IsIn v ws) (single t.word) (λ v p. p.0)
-        (s.spans t.word (from_words braid.letters m t.word h.0).0 (from_words braid.letters m t.word h.0).1), each f h.1)
+    each (t ∷ f) h = (
+      reduced_weaker braid.field (vanishes braid m) (λ v. IsIn v ws × IsUpTo t.word v) (λ v. IsIn v ws) (single t.word) (λ v p. p.0)
+          (s.spans t.word (from_words braid.letters m t.word h.0).0 (from_words braid.letters m t.word h.0).1),
+      each f h.1,
+    )
