@@ -16,3 +16,13 @@ pub mod Permutations
 pub mod WordLists
 pub mod Degrees
 pub mod Prefixes
+pub mod Congruences
+pub mod LeastWords
+pub mod Reduction
+pub mod Independence
+pub mod NormalForms
+pub mod Candidates
+pub mod Agreement
+pub mod Spanning
+pub mod Rows
+pub mod LeastLaws
