@@ -1,8 +1,7 @@
-use Rattle.std.proofs.Common.{rules, ◌≡◌, ℕ, List, [], ◌∷◌, ◌++◌, sym, ◌∙◌, ap, subst, refl, arith, length}
+use Rattle.std.proofs.Common.{rules, arith}
 use Rattle.std.proofs.lemmas.List.{nil_from_length}
 use Rattle.std.proofs.lemmas.Bool.Decides.{nat_tests}
-use Rattle.nichols_tensor.specs.Combination.{Term}
-use Rattle.nichols_words.proofs.Merging.{Merging, merging_start, merging-push, merging-skip, fewer, merged_value, merged_shape}
+use Rattle.nichols_words.proofs.Merging.{merging_start, merging-push, merging-skip, fewer, merged_value, merged_shape}
 use Rattle.nichols_words.proofs.merge.merge.Goals.{then-is_empty, else-is_empty}
 use Rattle.nichols_words.proofs.merge.merge.Goals as goal
 
