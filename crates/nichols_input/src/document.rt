@@ -16,7 +16,8 @@ use toml::Table;
 ///
 /// Row i of `rack` has the letter `i ▷ j` at place j, and row i of `cocycle` the scalar `q(i, j)`; an
 /// integer alone stands at every place. `NotDistributive` comes where the rows are a table of bijections
-/// against that law, and `Unbuilt` where the document has no braid for another cause.
+/// against that law, `Unbuilt` where the document has no braid for another cause, and `Memory` for want
+/// of memory.
 #[tactic(auto, using(crate::proofs::Found::read_table, crate::proofs::Found::refused_table))]
 pub fn read_braid(alloc: Global, bytes: &[u8]) -> Result<Braid, InputFault>
     ensures { MatchResult result

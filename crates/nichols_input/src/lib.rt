@@ -8,3 +8,6 @@ mod shapes;
 
 pub use document::read_braid;
 pub use faults::InputFault;
+
+#[cfg(test)]
+mod tests;
