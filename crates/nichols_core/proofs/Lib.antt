@@ -1,0 +1,5 @@
+pub mod Events
+pub mod LawsKept
+pub mod RunsKept
+pub mod Stages
+pub mod Steps

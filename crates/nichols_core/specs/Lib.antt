@@ -1,0 +1,4 @@
+pub mod Layout
+pub mod Machine
+pub mod Laws
+pub mod Runs

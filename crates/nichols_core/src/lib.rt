@@ -1,0 +1,9 @@
+//! The shelf machine: blocks that workers take, park, pick from, lay and publish, with no thread in sight.
+#![tactic(auto)]
+
+pub mod event;
+pub mod laws;
+pub mod layout;
+
+pub use event::{Event, Stage};
+pub use layout::Edge;
