@@ -1,5 +1,7 @@
+pub mod EdgesLaid
 pub mod Events
 pub mod LawsKept
 pub mod RunsKept
+pub mod Sorted
 pub mod Stages
 pub mod Steps

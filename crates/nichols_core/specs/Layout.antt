@@ -1,5 +1,5 @@
 -- Layouts: the blocks with their degrees, and the edges between them.
-use Rattle.std.specs.Prelude.{◌≡◌, ℕ, ◌+◌, ◌<◌, ◌≤◌, ◌⊎◌, ◌==◌, ◌&&◌, Bool, List, length, slice_index, slice_index_or, count_by, All, position, Option}
+use Rattle.std.specs.Prelude.{◌≡◌, ℕ, ◌+◌, ◌*◌, ◌<◌, ◌≤◌, ◌⊎◌, ◌==◌, ◌&&◌, Bool, List, length, slice_index, slice_index_or, count_by, All, position, Option}
 use Rattle.nichols_core.specs.declared.layout.Edge.{Edge}
 
 -- the degree of each block, and the edges
@@ -48,3 +48,14 @@ IsBefore e f = (e.upper < f.upper) ⊎ ((e.upper ≡ f.upper) × (e.letter < f.l
 pub record IsLayout (l : LayoutValue) : Type 0 where
   pub good : CanLayOut l.degrees l.edges
   pub rising : (j k : ℕ) → j < k → k < length l.edges → IsBefore (edge_at l.edges j) (edge_at l.edges k)
+
+-- numbers that rise with the lower block and then with the letter, or with the upper block and then with the letter
+abbrev pub exit_place : Edge → ℕ
+exit_place e = e.lower * 256 + e.letter
+
+abbrev pub entry_place : Edge → ℕ
+entry_place e = e.upper * 256 + e.letter
+
+-- each edge stands before the next one, by such a number
+abbrev pub IsRisingBy : (Edge → ℕ) → List Edge → Type 0
+IsRisingBy n es = (k : ℕ) → k + 1 < length es → n (edge_at es k) < n (edge_at es (k + 1))

@@ -6,4 +6,4 @@ pub mod laws;
 pub mod layout;
 
 pub use event::{Event, Stage};
-pub use layout::Edge;
+pub use layout::{Edge, Layout};
