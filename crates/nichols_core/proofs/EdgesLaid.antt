@@ -1,5 +1,5 @@
 -- When edges in any order can be laid out.
-use Rattle.std.proofs.Common.{◌≡◌, ℕ, ◌+◌, ◌<◌, ◌≤◌, List, length, subst, sym, arith}
+use Rattle.std.proofs.Common.{◌≡◌, ℕ, ◌+◌, ◌^◌, ◌<◌, ◌≤◌, List, length, subst, sym, arith}
 use Rattle.std.proofs.lemmas.List.Sorted.{All-permutation, sum_by-IsPermutation, IsPermutation-sym, IsPermutation-trans}
 use Rattle.std.specs.List.{All, count_by}
 use Rattle.std.specs.List.Sorted.{IsPermutation, IsNonDecreasingBy}
@@ -26,7 +26,7 @@ pub entries_rise : (ds : List ℕ) (es : List Edge) → CanLayOut ds es → IsNo
 entries_rise ds es good = rises (λ e. e.upper) es (small_letters ds es good.placed) good.one_into
 
 -- edges that are placed, rise in one order by their exits and in another by their entries
-module _ (ds : List ℕ) (es fs gs : List Edge) (placed : All (IsPlaced ds) es) (out : IsPermutation es fs) (exits : IsRisingBy exit_place fs) (into : IsPermutation fs gs) (entries : IsRisingBy entry_place gs) where
+module _ (ds : List ℕ) (es fs gs : List Edge) (few : length ds < 2 ^ 32) (placed : All (IsPlaced ds) es) (out : IsPermutation es fs) (exits : IsRisingBy exit_place fs) (into : IsPermutation fs gs) (entries : IsRisingBy entry_place gs) where
   pub laid_out : CanLayOut ds gs
   laid_out = record {
     placed = All-permutation (IsPlaced ds) es gs (IsPermutation-trans es fs gs out into) placed;
@@ -39,6 +39,7 @@ module _ (ds : List ℕ) (es fs gs : List Edge) (placed : All (IsPlaced ds) es) 
 
   pub is_layout : IsLayout (record { degrees = ds; edges = gs })
   is_layout = record {
+    few = few;
     good = laid_out;
     rising = λ j k less inside. before (edge_at gs j) (edge_at gs k) (small_letters ds gs laid_out.placed j (omega arith)) (small_letters ds gs laid_out.placed k inside) (rising entry_place gs entries j k less inside);
   }

@@ -1,5 +1,5 @@
 -- Layouts: the blocks with their degrees, and the edges between them.
-use Rattle.std.specs.Prelude.{◌≡◌, ℕ, ◌+◌, ◌*◌, ◌<◌, ◌≤◌, ◌⊎◌, ◌==◌, ◌&&◌, Bool, List, length, slice_index, slice_index_or, count_by, All, position, Option}
+use Rattle.std.specs.Prelude.{◌≡◌, ℕ, ◌+◌, ◌*◌, ◌^◌, ◌<◌, ◌≤◌, ◌⊎◌, ◌==◌, ◌&&◌, Bool, List, length, slice_index, slice_index_or, count_by, All, position, Option}
 use Rattle.nichols_core.specs.declared.layout.Edge.{Edge}
 
 -- the degree of each block, and the edges
@@ -44,8 +44,9 @@ pub record CanLayOut (degrees : List ℕ) (edges : List Edge) : Type 0 where
 abbrev pub IsBefore : Edge → Edge → Type 0
 IsBefore e f = (e.upper < f.upper) ⊎ ((e.upper ≡ f.upper) × (e.letter < f.letter))
 
--- the rules of a layout: those above, and the edges rise
+-- the rules of a layout: those above, fewer than 2^32 blocks, and the edges rise
 pub record IsLayout (l : LayoutValue) : Type 0 where
+  pub few : length l.degrees < 2 ^ 32
   pub good : CanLayOut l.degrees l.edges
   pub rising : (j k : ℕ) → j < k → k < length l.edges → IsBefore (edge_at l.edges j) (edge_at l.edges k)
 

@@ -2,3 +2,4 @@ pub mod Layout
 pub mod Machine
 pub mod Laws
 pub mod Runs
+pub mod States

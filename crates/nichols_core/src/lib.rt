@@ -4,6 +4,8 @@
 pub mod event;
 pub mod laws;
 pub mod layout;
+pub mod state;
 
 pub use event::{Event, Stage};
 pub use layout::{Edge, Layout};
+pub use state::State;

@@ -1,4 +1,4 @@
-use Rattle.std.proofs.Common.{◌≡◌, ℕ, List, subst, sym, ap, refl, true, false, true≢false, rules}
+use Rattle.std.proofs.Common.{◌≡◌, ℕ, List, subst, sym, ap, refl, true, false, true≢false, rules, arith}
 use Rattle.std.specs.List.{All}
 use Rattle.std.specs.List.Sorted.{IsNonDecreasingBy}
 use Rattle.std.proofs.lemmas.List.Sorted.{IsNonDecreasingBy-from_sort_by_key, IsPermutation-trans}
@@ -44,7 +44,7 @@ entries_of c = subst (IsRisingBy entry_place) c.deref-4.ensures.value (c.if-not-
 layout_of : (c : goal.Else-not-enter_apart) → IsLayout (record { degrees = c.args.degrees.items; edges = c.sort_unstable_by_key-2.new.self.items })
 layout_of c =
     is_layout c.args.degrees.items c.args.edges.items c.sort_unstable_by_key.new.self.items c.sort_unstable_by_key-2.new.self.items
-    (placed_of c) c.sort_unstable_by_key.ensures.permutation (exits_of c) c.sort_unstable_by_key-2.ensures.permutation (entries_of c)
+    (omega (arith, c.requires)) (placed_of c) c.sort_unstable_by_key.ensures.permutation (exits_of c) c.sort_unstable_by_key-2.ensures.permutation (entries_of c)
 
 pub invariant_of-result : goal.invariant_of-result
 invariant_of-result = layout_of
@@ -52,7 +52,7 @@ invariant_of-result = layout_of
 pub returns-clause-some : goal.returns-clause-some
 returns-clause-some c = (
   λ _. could_lay_out c.args.degrees.items c.args.edges.items c.sort_unstable_by_key.new.self.items c.sort_unstable_by_key-2.new.self.items
-      (placed_of c) c.sort_unstable_by_key.ensures.permutation (exits_of c) c.sort_unstable_by_key-2.ensures.permutation (entries_of c),
+      (omega (arith, c.requires)) (placed_of c) c.sort_unstable_by_key.ensures.permutation (exits_of c) c.sort_unstable_by_key-2.ensures.permutation (entries_of c),
   λ _. refl,
 )
 
