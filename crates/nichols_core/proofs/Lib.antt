@@ -4,4 +4,5 @@ pub mod LawsKept
 pub mod RunsKept
 pub mod Sorted
 pub mod Stages
+pub mod StatesKept
 pub mod Steps

@@ -159,3 +159,10 @@ begun_or_waiting (Held v) b w = w
 begun_or_waiting (Parked l) b w = b
 begun_or_waiting (Resumed v) b w = b
 begun_or_waiting Published b w = w
+
+pub every_false : (n : ℕ) (p : ℕ → Bool) (k : ℕ) → k < n → p k ≡ false → every n p ≡ false
+every_false n p k inside fails = two (every n p) refl
+  where
+    two : (t : Bool) → every n p ≡ t → every n p ≡ false
+    two true is = absurd (true≢false (sym (every_true n p is k inside) ∙ fails))
+    two false is = is

@@ -65,6 +65,239 @@ impl State {
     {
         self.picked[edge]
     }
+
+    /// Applies the event, and says whether its condition holds. Where it doesn't, the state stays. The layout
+    /// is the state's own.
+    pub fn apply(&mut self, layout: &Layout, event: Event) -> bool
+        requires layout { layout.now ≡ self.old.layout }
+        requires in_range { IsInRange self.old event }
+        ensures answer { result ≡ can self.old.layout.edges event (machine_of self.old) }
+        ensures state { machine_of self.new ≡ after self.old.layout.edges event (machine_of self.old) }
+        ensures layout { self.new.layout ≡ self.old.layout }
+        ensures workers { self.new.workers ≡ self.old.workers }
+        ensures stays { result ≡ false → self.new ≡ self.old }
+    {
+        match event {
+            Event::Take { worker, block } => self.take(worker, block),
+            Event::Ask { worker, block, letter } => self.ask(layout, worker, block, letter),
+            Event::Pick { worker, block, letter } => self.pick(layout, worker, block, letter),
+            Event::Lay { worker, block, letter } => self.lay(layout, worker, block, letter),
+            Event::Publish { worker, block } => self.publish(layout, worker, block),
+            Event::Release { worker, block } => self.release(worker, block),
+        }
+    }
+
+    fn take(&mut self, worker: u32, block: u32) -> bool
+        requires { IsWithin self.old worker block }
+        ensures { Applies (Take worker block) self.old self.new result }
+    {
+        let mark = place_of(self.stages.len(), worker, block);
+        self.owed[mark] = false;
+        self.stages[block as usize] = taken(stage_at(&self.stages, block), worker);
+        true
+    }
+
+    fn ask(&mut self, layout: &Layout, worker: u32, block: u32, letter: u8) -> bool
+        requires layout { layout.now ≡ self.old.layout }
+        requires in_range { IsWithin self.old worker block }
+        ensures { Applies (Ask worker block letter) self.old self.new result }
+    {
+        let Some(edge) = edge_into(&layout.edges, block, letter) else {
+            return false;
+        };
+        if !is_held_by(stage_at(&self.stages, block), worker) || !none_picked(&layout.edges, &self.picked, block) {
+            return false;
+        }
+        let lower = lower_of(&layout.edges, edge);
+        if !is_published(stage_at(&self.stages, lower)) {
+            self.stages[block as usize] = Stage::Parked(lower);
+        }
+        true
+    }
+
+    fn pick(&mut self, layout: &Layout, worker: u32, block: u32, letter: u8) -> bool
+        requires layout { layout.now ≡ self.old.layout }
+        requires in_range { IsWithin self.old worker block }
+        ensures { Applies (Pick worker block letter) self.old self.new result }
+    {
+        let Some(edge) = edge_into(&layout.edges, block, letter) else {
+            return false;
+        };
+        if !is_held_by(stage_at(&self.stages, block), worker) {
+            return false;
+        }
+        let lower = lower_of(&layout.edges, edge);
+        if !is_published(stage_at(&self.stages, lower)) || !self.laid[edge] || self.picked[edge] {
+            return false;
+        }
+        self.picked[edge] = true;
+        true
+    }
+
+    fn lay(&mut self, layout: &Layout, worker: u32, block: u32, letter: u8) -> bool
+        requires layout { layout.now ≡ self.old.layout }
+        requires in_range { IsWithin self.old worker block }
+        ensures { Applies (Lay worker block letter) self.old self.new result }
+    {
+        let Some(edge) = edge_out(&layout.edges, block, letter) else {
+            return false;
+        };
+        if !is_held_by(stage_at(&self.stages, block), worker) || !all_picked(&layout.edges, &self.picked, block) {
+            return false;
+        }
+        if self.laid[edge] {
+            return false;
+        }
+        self.laid[edge] = true;
+        true
+    }
+
+    fn publish(&mut self, layout: &Layout, worker: u32, block: u32) -> bool
+        requires layout { layout.now ≡ self.old.layout }
+        requires in_range { IsWithin self.old worker block }
+        ensures { Applies (Publish worker block) self.old self.new result }
+    {
+        if !is_held_by(stage_at(&self.stages, block), worker)
+            || !all_picked(&layout.edges, &self.picked, block)
+            || !all_laid(&layout.edges, &self.laid, block)
+        {
+            return false;
+        }
+        resume(&mut self.stages, worker, block);
+        self.stages[block as usize] = Stage::Published;
+        true
+    }
+
+    fn release(&mut self, worker: u32, block: u32) -> bool
+        requires { IsWithin self.old worker block }
+        ensures { Applies (Release worker block) self.old self.new result }
+    {
+        if !is_resumed_by(stage_at(&self.stages, block), worker) {
+            return false;
+        }
+        let mark = place_of(self.stages.len(), worker, block);
+        self.owed[mark] = true;
+        self.stages[block as usize] = Stage::Ready;
+        true
+    }
+}
+
+/// The number of the edge of that letter into the block.
+fn edge_into(edges: &[Edge], block: u32, letter: u8) -> Option<usize>
+    ensures { result ≡ edge_into edges.now block letter }
+{
+    edges.iter().position(|edge| edge.upper == block && edge.letter == letter)
+}
+
+/// The number of the edge of that letter out of the block.
+fn edge_out(edges: &[Edge], block: u32, letter: u8) -> Option<usize>
+    ensures { result ≡ edge_out edges.now block letter }
+{
+    edges.iter().position(|edge| edge.lower == block && edge.letter == letter)
+}
+
+/// The lower block of the edge with this number.
+fn lower_of(edges: &[Edge], edge: usize) -> u32
+    requires { edge < length edges.now }
+    ensures { result ≡ (edge_at edges.now edge).lower }
+{
+    edges[edge].lower
+}
+
+/// Whether no edge into the block is picked.
+fn none_picked(edges: &[Edge], picked: &[bool], block: u32) -> bool
+    requires { length picked.now ≡ length edges.now }
+    ensures { result ≡ none_picked edges.now (mark_at picked.now) block }
+{
+    for i in 0..edges.len() {
+        if edges[i].upper == block && picked[i] {
+            return false;
+        }
+    }
+    true
+}
+
+/// Whether all edges into the block are picked.
+fn all_picked(edges: &[Edge], picked: &[bool], block: u32) -> bool
+    requires { length picked.now ≡ length edges.now }
+    ensures { result ≡ all_picked edges.now (mark_at picked.now) block }
+{
+    for i in 0..edges.len() {
+        if edges[i].upper == block && !picked[i] {
+            return false;
+        }
+    }
+    true
+}
+
+/// Whether all edges out of the block are laid.
+fn all_laid(edges: &[Edge], laid: &[bool], block: u32) -> bool
+    requires { length laid.now ≡ length edges.now }
+    ensures { result ≡ all_laid edges.now (mark_at laid.now) block }
+{
+    for i in 0..edges.len() {
+        if edges[i].lower == block && !laid[i] {
+            return false;
+        }
+    }
+    true
+}
+
+fn is_held_by(stage: Stage, worker: u32) -> bool
+    ensures { result ≡ is_held_by worker stage }
+{
+    match stage {
+        Stage::Held(by) => by == worker,
+        _ => false,
+    }
+}
+
+fn is_resumed_by(stage: Stage, worker: u32) -> bool
+    ensures { result ≡ is_resumed_by worker stage }
+{
+    match stage {
+        Stage::Resumed(by) => by == worker,
+        _ => false,
+    }
+}
+
+fn is_published(stage: Stage) -> bool
+    ensures { result ≡ is_published stage }
+{
+    match stage {
+        Stage::Published => true,
+        _ => false,
+    }
+}
+
+/// What a stage is once the worker took the block.
+fn taken(stage: Stage, worker: u32) -> Stage
+    ensures { result ≡ taken worker stage }
+{
+    match stage {
+        Stage::Ready => Stage::Held(worker),
+        other => other,
+    }
+}
+
+/// Resumes each block that is parked on this one.
+fn resume(stages: &mut Vec<Stage>, worker: u32, block: u32)
+    ensures len { length stages.new.items ≡ length stages.old.items }
+    ensures resumed { (b : ℕ) → stage_at stages.new.items b ≡ resumed worker block (stage_at stages.old.items b) }
+{
+    for i in 0..stages.len() {
+        stages[i] = resumed(stages[i], worker, block);
+    }
+}
+
+/// What a stage is once the worker published the block.
+fn resumed(stage: Stage, worker: u32, block: u32) -> Stage
+    ensures { result ≡ resumed worker block stage }
+{
+    match stage {
+        Stage::Parked(lower) if lower == block => Stage::Resumed(worker),
+        other => other,
+    }
 }
 
 fn stage_at(stages: &[Stage], block: u32) -> Stage
