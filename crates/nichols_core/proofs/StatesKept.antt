@@ -1,8 +1,9 @@
 -- What is written into the lists of a state is what the event does to the state of the machine.
-use Rattle.std.proofs.Common.{◌≡◌, ◌≢◌, ℕ, zero, suc, ◌+◌, ◌*◌, ◌%◌, ◌<◌, ◌≤◌, Bool, true, false, true≢false, cond, eqb, ltb, not, ◌&&◌, List, length, set, refl, sym, ap, ◌∙◌, subst, eq-eqb, ne_eqb, lt-ltb, arith, length-set, get_or-set_same, get_or-set_other}
+use Rattle.std.proofs.Common.{◌≡◌, ◌≢◌, ℕ, zero, suc, ◌+◌, ◌*◌, ◌%◌, ◌<◌, ◌≤◌, Bool, true, false, true≢false, cond, eqb, ltb, not, ◌&&◌, List, length, set, refl, sym, ap, ◌∙◌, subst, eq-eqb, ne_eqb, lt-ltb, arith, length-set, get_or-set_same, get_or-set_other, replicate}
 use Rattle.std.specs.Prelude.{Option, Some, None}
 use Rattle.std.proofs.lemmas.Nat.{mod-mul-add}
 use Rattle.std.proofs.lemmas.Bool.{le-ltb}
+use Rattle.std.proofs.lemmas.List.{get_or-replicate, get_or_past, length-replicate}
 use Rattle.std.proofs.Math.Nat.{mul-le-mul_left, mul-le-mul_right}
 use mathlib.Core.Logic.{dite}
 use native.Mathlib.Decide.{ℕ_discrete, dec_le}
@@ -11,12 +12,14 @@ use Rattle.nichols_core.specs.declared.event.Event.{Event}
 use Rattle.nichols_core.specs.declared.event.Event.TheVariants.{Take, Ask, Pick, Lay, Publish, Release}
 use Rattle.nichols_core.specs.declared.event.Stage.{Stage}
 use Rattle.nichols_core.specs.declared.event.Stage.TheVariants.{Ready, Held, Parked, Resumed, Published}
-use Rattle.nichols_core.specs.Layout.{LayoutValue, edge_at, edge_into, edge_out}
+use Rattle.nichols_core.specs.Layout.{LayoutValue, IsLayout, edge_at, edge_into, edge_out}
 use Rattle.nichols_core.specs.Machine.{Machine, put, put_owed, by_edge, some_edge, is_held_by, is_published, can, effect, after, taken, ask, pick, lay, resumed}
 use Rattle.nichols_core.specs.Laws.{Laws}
 use Rattle.nichols_core.specs.States.{StateValue, mark_at, stage_at, machine_of, IsState, IsWithin, Applies}
 use Rattle.nichols_core.proofs.Stages.{put_here, put_else}
 use Rattle.nichols_core.proofs.Events.{events_keep_laws}
+use Rattle.nichols_core.proofs.RunsKept.{start_meets_laws}
+use Rattle.nichols_core.specs.Runs.{start}
 
 stage_put : (xs : List Stage) (b : ℕ) (v : Stage) → b < length xs → (c : ℕ) → stage_at (set xs b v) c ≡ put (stage_at xs) b v c
 stage_put xs b v inside c =
@@ -215,3 +218,55 @@ pick_possible es m w b a k found held is laid picked =
   where
     both : (x y : Bool) → x ≡ true → y ≡ true → (x && y) ≡ true
     both x y p q = ap (λ t. t && y) p ∙ q
+
+stage_start : (n b : ℕ) → stage_at (replicate n Ready) b ≡ cond (ltb b n) Ready Published
+stage_start n b =
+    dite (dec_le (suc b) n)
+    (λ h. get_or-replicate n b Ready Published h ∙ sym (ap (λ t. cond t Ready Published) (lt-ltb b n h)))
+    (λ h.
+        let len : length (replicate n Ready) ≡ n = length-replicate n Ready in
+        get_or_past (replicate n Ready) b Published (omega arith) ∙ sym (ap (λ t. cond t Ready Published) (le-ltb b n (omega arith))))
+
+mark_start : (n k : ℕ) → mark_at (replicate n false) k ≡ false
+mark_start n k =
+    dite (dec_le (suc k) n)
+    (λ h. get_or-replicate n k false false h)
+    (λ h. let len : length (replicate n false) ≡ n = length-replicate n false in get_or_past (replicate n false) k false (omega arith))
+
+owes_start : (n w b : ℕ) → (ltb b n && ltb (w * n + b) n) ≡ (eqb w 0 && ltb b n)
+owes_start n zero b = two (ltb b n) (ltb (0 * n + b) n) (ap (λ k. ltb k n) (omega arith))
+  where
+    two : (t u : Bool) → u ≡ t → (t && u) ≡ t
+    two true u e = e
+    two false u e = refl
+owes_start n (suc w) b = ap (λ t. ltb b n && t) (le-ltb (suc w * n + b) n (omega arith)) ∙ (and_false (ltb b n) ∙ sym (ap (λ t. t && ltb b n) (ne_eqb (suc w) 0 (λ e. omega arith))))
+  where
+    and_false : (t : Bool) → (t && false) ≡ false
+    and_false true = refl
+    and_false false = refl
+
+-- the lists of the start
+pub started : (l : LayoutValue) (workers : ℕ) (stages : List Stage) (owed laid picked : List Bool) (n e : ℕ)
+    → stages ≡ replicate n Ready → ((k : ℕ) → mark_at owed k ≡ ltb k n) → laid ≡ replicate e false → picked ≡ replicate e false
+    → machine_of (record { layout = l; workers = workers; stages = stages; owed = owed; laid = laid; picked = picked }) ≡ start n
+started l workers stages owed laid picked n e is marks none_laid none_picked =
+    let len : length stages ≡ n = ap length is ∙ length-replicate n Ready in λ i. record {
+      stage = λ b. (ap (λ xs. stage_at xs b) is ∙ stage_start n b) i;
+      owes = λ w b. (ap (λ z. ltb b z && mark_at owed (w * z + b)) len ∙ (ap (λ t. ltb b n && t) (marks (w * n + b)) ∙ owes_start n w b)) i;
+      laid = λ k. (ap (λ xs. mark_at xs k) none_laid ∙ mark_start e k) i;
+      picked = λ k. (ap (λ xs. mark_at xs k) none_picked ∙ mark_start e k) i;
+    }
+
+pub start_kept : (l : LayoutValue) → IsLayout l → (workers : ℕ) (stages : List Stage) (owed laid picked : List Bool) (n e : ℕ)
+    → n ≡ length l.degrees → e ≡ length l.edges → length owed ≡ workers * n
+    → stages ≡ replicate n Ready → ((k : ℕ) → mark_at owed k ≡ ltb k n) → laid ≡ replicate e false → picked ≡ replicate e false
+    → IsState (record { layout = l; workers = workers; stages = stages; owed = owed; laid = laid; picked = picked })
+start_kept l rules workers stages owed laid picked n e blocks edges len is marks none_laid none_picked =
+    let stages_len : length stages ≡ n = ap length is ∙ length-replicate n Ready in record {
+      layout = rules;
+      stages = stages_len ∙ blocks;
+      owed = len ∙ sym (ap (λ z. workers * z) stages_len);
+      laid = ap length none_laid ∙ (length-replicate e false ∙ edges);
+      picked = ap length none_picked ∙ (length-replicate e false ∙ edges);
+      laws = subst (Laws l.edges) (sym (started l workers stages owed laid picked n e is marks none_laid none_picked ∙ ap start blocks)) (start_meets_laws l rules);
+    }

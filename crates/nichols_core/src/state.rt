@@ -1,6 +1,6 @@
 //! The machine in memory.
 
-ghost use Rattle.std.specs.Prelude.{◌≡◌, ℕ, ◌+◌, ◌*◌, ◌^◌, ◌<◌, ◌≤◌, false, length, slice_index_or, IfOk};
+ghost use Rattle.std.specs.Prelude.{◌≡◌, ℕ, ◌+◌, ◌*◌, ◌^◌, ◌<◌, ◌≤◌, false, length, slice_index_or, nat_lt, IfOk};
 ghost use Rattle.nichols_core.specs.Layout.{edge_at, edge_into, edge_out};
 ghost use Rattle.nichols_core.specs.Machine.{can, after, none_picked, all_picked, all_laid, is_held_by, is_resumed_by, is_published, taken, resumed};
 ghost use Rattle.nichols_core.specs.Runs.{start};
@@ -34,6 +34,30 @@ impl Model for State {
 }
 
 impl State {
+    /// Every block is ready and owed by worker 0, and no edge is laid or picked.
+    pub fn start(alloc: Global, layout: &Layout, workers: u32) -> Result<State, AllocError>
+        requires { 1 ≤ workers }
+        ensures layout { IfOk result (λ s. s.layout ≡ layout.now) }
+        ensures workers { IfOk result (λ s. s.workers ≡ workers) }
+        ensures state { IfOk result (λ s. machine_of s ≡ start (length layout.now.degrees)) }
+    {
+        let blocks = layout.degrees.len();
+        let edges = layout.edges.len();
+        let kept = layout.copy(alloc)?;
+        let stages = Vec::from_elem(alloc, Stage::Ready, blocks)?;
+        let owed = first_owes_all(alloc, blocks, workers)?;
+        let laid = Vec::from_elem(alloc, false, edges)?;
+        let picked = Vec::from_elem(alloc, false, edges)?;
+        Ok(State {
+            layout: kept,
+            workers,
+            stages,
+            owed,
+            laid,
+            picked,
+        })
+    }
+
     /// Where the block stands.
     pub fn stage(&self, block: u32) -> Stage
         requires { block < length self.now.layout.degrees }
@@ -298,6 +322,22 @@ fn resumed(stage: Stage, worker: u32, block: u32) -> Stage
         Stage::Parked(lower) if lower == block => Stage::Resumed(worker),
         other => other,
     }
+}
+
+/// A row of marks for each worker, of which worker 0's are set.
+fn first_owes_all(alloc: Global, blocks: usize, workers: u32) -> Result<Vec<bool>, AllocError>
+    requires { 1 ≤ workers }
+    ensures len { IfOk result (λ v. length v.items ≡ workers * blocks) }
+    ensures marks { IfOk result (λ v. (k : ℕ) → mark_at v.items k ≡ nat_lt k blocks) }
+{
+    let Some(marks) = blocks.checked_mul(workers as usize) else {
+        return Err(AllocError);
+    };
+    let mut owed = Vec::from_elem(alloc, false, marks)?;
+    for block in 0..blocks {
+        owed[block] = true;
+    }
+    Ok(owed)
 }
 
 fn stage_at(stages: &[Stage], block: u32) -> Stage
