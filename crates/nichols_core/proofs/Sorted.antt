@@ -97,10 +97,10 @@ module _ (block : Edge → ℕ) where
       let next : ℕ = k + 1 in
       dite (ℕ_discrete (place e) (place f))
       (λ equal.
-          let both = same_by e f (small k (omega arith)) (small (k + 1) inside) equal in
-          let two = count_two (by (block e) e.letter) es k (k + 1) (omega arith) inside both.0 both.1 in
-          let most = one (block e) e.letter in
-          absurd (omega arith))
+      let both = same_by e f (small k (omega arith)) (small (k + 1) inside) equal in
+      let two = count_two (by (block e) e.letter) es k (k + 1) (omega arith) inside both.0 both.1 in
+      let most = one (block e) e.letter in
+      absurd (omega arith))
       (λ other. omega arith)
 
 -- what stands before by its number stands before by upper block and letter

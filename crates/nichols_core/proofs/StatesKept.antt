@@ -63,15 +63,15 @@ owed_put xs n w b v hb inside u c =
     dite (dec_le (suc c) n)
     (λ hc. dite (ℕ_discrete j k)
     (λ e.
-        ap (λ t. t && mark_at (set xs k v) j) (lt-ltb c n hc)
-        ∙ (ap (mark_at (set xs k v)) e ∙ (get_or-set_same xs k v false inside ∙ sym (put_both f w b v u c (same_worker n w b u c hb hc e) (same_block n w b u c hb hc e)))))
+    ap (λ t. t && mark_at (set xs k v) j) (lt-ltb c n hc)
+    ∙ (ap (mark_at (set xs k v)) e ∙ (get_or-set_same xs k v false inside ∙ sym (put_both f w b v u c (same_worker n w b u c hb hc e) (same_block n w b u c hb hc e)))))
     (λ ne.
-        ap (λ t. ltb c n && t) (get_or-set_other xs k j v false ne)
-        ∙ sym (put_other f w b v u c (λ p q. ne (ap (λ y. y * n + c) p ∙ ap (λ d. w * n + d) q)))))
+    ap (λ t. ltb c n && t) (get_or-set_other xs k j v false ne)
+    ∙ sym (put_other f w b v u c (λ p q. ne (ap (λ y. y * n + c) p ∙ ap (λ d. w * n + d) q)))))
     (λ outside.
-        let beyond : ltb c n ≡ false = le-ltb c n (omega arith) in
-        ap (λ t. t && mark_at (set xs k v) j) beyond
-        ∙ sym (put_other f w b v u c (λ p q. outside (omega arith)) ∙ ap (λ t. t && mark_at xs j) beyond))
+    let beyond : ltb c n ≡ false = le-ltb c n (omega arith) in
+    ap (λ t. t && mark_at (set xs k v) j) beyond
+    ∙ sym (put_other f w b v u c (λ p q. outside (omega arith)) ∙ ap (λ t. t && mark_at xs j) beyond))
 
 effected : (es : List Edge) (event : Event) (m n : Machine) → can es event m ≡ true → n ≡ effect es event m → n ≡ after es event m
 effected es event m n possible is = is ∙ sym (ap (λ t. cond t (effect es event m) m) possible)
@@ -126,6 +126,7 @@ take_does s w b k x kept within place is = λ i. record {
   where
     inside : b < length s.stages
     inside = block_inside s w b kept within
+
     owed_row : (n : ℕ) → n ≡ length s.stages → (u c : ℕ) → (ltb c n && mark_at (set s.owed k false) (u * n + c)) ≡ put_owed (λ y d. ltb d (length s.stages) && mark_at s.owed (y * length s.stages + d)) w b false u c
     owed_row n e u c =
         ap (λ z. ltb c z && mark_at (set s.owed k false) (u * z + c)) e
@@ -143,6 +144,7 @@ release_does s w b k kept within place = λ i. record {
   where
     inside : b < length s.stages
     inside = block_inside s w b kept within
+
     owed_row : (n : ℕ) → n ≡ length s.stages → (u c : ℕ) → (ltb c n && mark_at (set s.owed k true) (u * n + c)) ≡ put_owed (λ y d. ltb d (length s.stages) && mark_at s.owed (y * length s.stages + d)) w b true u c
     owed_row n e u c =
         ap (λ z. ltb c z && mark_at (set s.owed k true) (u * z + c)) e
@@ -224,8 +226,8 @@ stage_start n b =
     dite (dec_le (suc b) n)
     (λ h. get_or-replicate n b Ready Published h ∙ sym (ap (λ t. cond t Ready Published) (lt-ltb b n h)))
     (λ h.
-        let len : length (replicate n Ready) ≡ n = length-replicate n Ready in
-        get_or_past (replicate n Ready) b Published (omega arith) ∙ sym (ap (λ t. cond t Ready Published) (le-ltb b n (omega arith))))
+    let len : length (replicate n Ready) ≡ n = length-replicate n Ready in
+    get_or_past (replicate n Ready) b Published (omega arith) ∙ sym (ap (λ t. cond t Ready Published) (le-ltb b n (omega arith))))
 
 mark_start : (n k : ℕ) → mark_at (replicate n false) k ≡ false
 mark_start n k =

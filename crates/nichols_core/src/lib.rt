@@ -9,3 +9,6 @@ pub mod state;
 pub use event::{Event, Stage};
 pub use layout::{Edge, Layout};
 pub use state::State;
+
+#[cfg(test)]
+mod tests;

@@ -103,9 +103,21 @@ impl State {
     {
         match event {
             Event::Take { worker, block } => self.take(worker, block),
-            Event::Ask { worker, block, letter } => self.ask(layout, worker, block, letter),
-            Event::Pick { worker, block, letter } => self.pick(layout, worker, block, letter),
-            Event::Lay { worker, block, letter } => self.lay(layout, worker, block, letter),
+            Event::Ask {
+                worker,
+                block,
+                letter,
+            } => self.ask(layout, worker, block, letter),
+            Event::Pick {
+                worker,
+                block,
+                letter,
+            } => self.pick(layout, worker, block, letter),
+            Event::Lay {
+                worker,
+                block,
+                letter,
+            } => self.lay(layout, worker, block, letter),
             Event::Publish { worker, block } => self.publish(layout, worker, block),
             Event::Release { worker, block } => self.release(worker, block),
         }
@@ -129,7 +141,9 @@ impl State {
         let Some(edge) = edge_into(&layout.edges, block, letter) else {
             return false;
         };
-        if !is_held_by(stage_at(&self.stages, block), worker) || !none_picked(&layout.edges, &self.picked, block) {
+        if !is_held_by(stage_at(&self.stages, block), worker)
+            || !none_picked(&layout.edges, &self.picked, block)
+        {
             return false;
         }
         let lower = lower_of(&layout.edges, edge);
@@ -166,7 +180,9 @@ impl State {
         let Some(edge) = edge_out(&layout.edges, block, letter) else {
             return false;
         };
-        if !is_held_by(stage_at(&self.stages, block), worker) || !all_picked(&layout.edges, &self.picked, block) {
+        if !is_held_by(stage_at(&self.stages, block), worker)
+            || !all_picked(&layout.edges, &self.picked, block)
+        {
             return false;
         }
         if self.laid[edge] {
@@ -210,14 +226,18 @@ impl State {
 fn edge_into(edges: &[Edge], block: u32, letter: u8) -> Option<usize>
     ensures { result ≡ edge_into edges.now block letter }
 {
-    edges.iter().position(|edge| edge.upper == block && edge.letter == letter)
+    edges
+        .iter()
+        .position(|edge| edge.upper == block && edge.letter == letter)
 }
 
 /// The number of the edge of that letter out of the block.
 fn edge_out(edges: &[Edge], block: u32, letter: u8) -> Option<usize>
     ensures { result ≡ edge_out edges.now block letter }
 {
-    edges.iter().position(|edge| edge.lower == block && edge.letter == letter)
+    edges
+        .iter()
+        .position(|edge| edge.lower == block && edge.letter == letter)
 }
 
 /// The lower block of the edge with this number.

@@ -11,8 +11,7 @@ pub returns-then-not-leave_apart-clause-some : goal.returns-then-not-leave_apart
 returns-then-not-leave_apart-clause-some c =
     let ds = c.args.degrees.items in
     let fs = c.sort_unstable_by_key.new.self.items in
-    let sorted : IsNonDecreasingBy exit_place fs = IsNonDecreasingBy-from_sort_by_key exit_place fs c.sort_unstable_by_key.ensures.sorted (λ a r q k. search rules) in
-    (
+    let sorted : IsNonDecreasingBy exit_place fs = IsNonDecreasingBy-from_sort_by_key exit_place fs c.sort_unstable_by_key.ensures.sorted (λ a r q k. search rules) in (
       λ e. absurd (true≢false (sym e)),
       λ good. c.if-not-leave_apart.ensures.1 (subst (IsRisingBy exit_place) (sym c.deref-3.ensures.value) (exits_rise ds fs (moved ds c.args.edges.items fs c.sort_unstable_by_key.ensures.permutation good) sorted)),
     )
@@ -22,8 +21,7 @@ returns-then-not-enter_apart-clause-some c =
     let ds = c.args.degrees.items in
     let fs = c.sort_unstable_by_key.new.self.items in
     let gs = c.sort_unstable_by_key-2.new.self.items in
-    let sorted : IsNonDecreasingBy entry_place gs = IsNonDecreasingBy-from_sort_by_key entry_place gs c.sort_unstable_by_key-2.ensures.sorted (λ a r q k. search rules) in
-    (
+    let sorted : IsNonDecreasingBy entry_place gs = IsNonDecreasingBy-from_sort_by_key entry_place gs c.sort_unstable_by_key-2.ensures.sorted (λ a r q k. search rules) in (
       λ e. absurd (true≢false (sym e)),
       λ good. c.if-not-enter_apart.ensures.1 (subst (IsRisingBy entry_place) (sym c.deref-4.ensures.value)
           (entries_rise ds gs (moved ds fs gs c.sort_unstable_by_key-2.ensures.permutation (moved ds c.args.edges.items fs c.sort_unstable_by_key.ensures.permutation good)) sorted)),

@@ -30,7 +30,7 @@ found c = let same = edges_are c in search rules
 
 possible : (c : goal.After-self-1) → can (was c).layout.edges (Pick c.args.worker c.args.block c.args.letter) (machine_of (was c)) ≡ true
 unfolding was
-possible c = 
+possible c =
     let low : ℕ = (edge_at (was c).layout.edges c.in-Some.edge).lower in
     let same = edges_are c in
     let lower : c.lower_of-lower.result ≡ low = search rules in
