@@ -1,6 +1,7 @@
 pub mod EdgesLaid
 pub mod Events
 pub mod LawsKept
+mod Rows
 pub mod RunsKept
 pub mod Sorted
 pub mod Stages
