@@ -1,3 +1,4 @@
+pub mod Conditions
 pub mod EdgesLaid
 pub mod Events
 pub mod LawsKept

@@ -3,3 +3,4 @@ pub mod Machine
 pub mod Laws
 pub mod Runs
 pub mod States
+pub mod Conditions

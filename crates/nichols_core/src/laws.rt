@@ -1,7 +1,19 @@
 //! The laws of the machine, each the contract of a function that does nothing: for every layout and every
-//! list of events from the start, and the last one for every state that meets the six laws.
+//! list of events from the start, and the last one for every state that meets the six laws. The first two say
+//! what the tests of the definitions mean.
 
+ghost use Rattle.nichols_core.specs.Conditions.{EdgesByLetter, ConditionsAreFacts};
 ghost use Rattle.nichols_core.specs.Runs.{EventsKeepLaws, RunsMeetLaws, OneHolder, PublishedOnce, PublishedStays, ParkedIsResumed, ResumedIsReleased, PublicationResumes, HeldFromPick, PickedOnce, LaidOnce, IdleIsPublished};
+
+/// An edge is the one of its letter into its upper block, and the one of its letter out of its lower block.
+pub fn an_edge_is_found_by_its_letter()
+    ensures { EdgesByLetter }
+{}
+
+/// The test of an event's condition passes exactly where the stages and edges are as the condition asks.
+pub fn a_condition_is_what_it_asks()
+    ensures { ConditionsAreFacts }
+{}
 
 /// Every event keeps the six laws: ready is owed; parked waits for an unpublished block; picked is laid below
 /// a published block; laid by a holder that picked everything; published is complete; untouched before it is
