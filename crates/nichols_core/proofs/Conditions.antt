@@ -1,5 +1,5 @@
 -- In a layout an edge is found by its letter, and the test of a condition is what the condition asks.
-use Rattle.std.proofs.Common.{◌≡◌, ◌≢◌, ℕ, zero, suc, ◌+◌, ◌<◌, ◌≤◌, ◌↔◌, Bool, true, false, true≢false, cond, eqb, ltb, not, ◌&&◌, ◌||◌, List, [], ◌∷◌, length, refl, sym, ap, ◌∙◌, subst, eq-eqb, ne_eqb, lt-ltb, arith}
+use Rattle.std.proofs.Common.{◌≡◌, ℕ, zero, suc, ◌+◌, ◌<◌, ◌≤◌, Bool, true, false, true≢false, cond, eqb, not, ◌&&◌, ◌||◌, List, [], ◌∷◌, length, refl, sym, ap, ◌∙◌, subst, eq-eqb, ne_eqb, lt-ltb, arith}
 use Rattle.std.specs.Prelude.{Option, Some, None}
 use Rattle.std.specs.List.{position, position_or_len, count_by}
 use Rattle.std.proofs.lemmas.Bool.{eqb-true}
@@ -12,7 +12,7 @@ use Rattle.nichols_core.specs.declared.event.Event.TheVariants.{Take, Ask, Pick,
 use Rattle.nichols_core.specs.declared.event.Stage.{Stage}
 use Rattle.nichols_core.specs.declared.event.Stage.TheVariants.{Held, Resumed, Published}
 use Rattle.nichols_core.specs.Layout.{LayoutValue, IsLayout, edge_at, edge_into, edge_out, enters, leaves}
-use Rattle.nichols_core.specs.Machine.{Machine, none_picked, all_picked, all_laid, some_edge, is_held_by, is_resumed_by, is_published, can}
+use Rattle.nichols_core.specs.Machine.{Machine, none_picked, all_picked, all_laid, some_edge, by_edge, is_held_by, is_resumed_by, is_published, can, effect, after, ask, pick, lay, publish, release}
 use Rattle.nichols_core.specs.Laws.{AllPicked, NonePicked, AllLaid}
 use Rattle.nichols_core.specs.Conditions.{IsInto, IsOutOf, Allows, EdgesByLetter, ConditionsAreFacts}
 use Rattle.nichols_core.proofs.Stages.{and_left, and_right, not_true, true_every, held_by, resumed_by, published}
@@ -190,3 +190,28 @@ module _ (l : LayoutValue) (rules : IsLayout l) (m : Machine) where
 
 pub conditions_are_facts : ConditionsAreFacts
 conditions_are_facts l rules event m = (allowed l rules m event, possible l rules m event)
+
+-- What an event does whose condition holds, with the edge given by its number.
+module _ (l : LayoutValue) (rules : IsLayout l) (m : Machine) where
+  applied : (event : Event) → Allows l.edges event m → after l.edges event m ≡ effect l.edges event m
+  applied event h = ap (λ t. cond t (effect l.edges event m) m) (possible l rules m event h)
+
+  by_found : (at : Option ℕ) (f : ℕ → Machine → Machine) (k : ℕ) → at ≡ Some k → by_edge at f m ≡ f k m
+  by_found at f k is = ap (λ o. by_edge o f m) is
+
+  pub after_ask : (w b a k : ℕ) → m.stage b ≡ Held w → IsInto l.edges b a k → NonePicked l.edges m b → after l.edges (Ask w b a) m ≡ ask b (edge_at l.edges k).lower m
+  after_ask w b a k held at none =
+      applied (Ask w b a) (held, (k, at), none)
+      ∙ by_found (edge_into l.edges b a) (λ j. ask b (edge_at l.edges j).lower) k (into_found l rules b a k at)
+
+  pub after_pick : (w b a k : ℕ) → m.stage b ≡ Held w → IsInto l.edges b a k → m.stage (edge_at l.edges k).lower ≡ Published → m.laid k ≡ true → m.picked k ≡ false → after l.edges (Pick w b a) m ≡ pick k m
+  after_pick w b a k held at low laid yet = applied (Pick w b a) (held, (k, (at, low, laid, yet))) ∙ by_found (edge_into l.edges b a) pick k (into_found l rules b a k at)
+
+  pub after_lay : (w b a k : ℕ) → m.stage b ≡ Held w → AllPicked l.edges m b → IsOutOf l.edges b a k → m.laid k ≡ false → after l.edges (Lay w b a) m ≡ lay k m
+  after_lay w b a k held full at yet = applied (Lay w b a) (held, full, (k, (at, yet))) ∙ by_found (edge_out l.edges b a) lay k (out_found l rules b a k at)
+
+  pub after_publish : (w b : ℕ) → m.stage b ≡ Held w → AllPicked l.edges m b → AllLaid l.edges m b → after l.edges (Publish w b) m ≡ publish w b m
+  after_publish w b held full spread = applied (Publish w b) (held, full, spread)
+
+  pub after_release : (w b : ℕ) → m.stage b ≡ Resumed w → after l.edges (Release w b) m ≡ release w b m
+  after_release w b was = applied (Release w b) was

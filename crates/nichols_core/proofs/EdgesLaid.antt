@@ -1,11 +1,11 @@
 -- When edges in any order can be laid out.
-use Rattle.std.proofs.Common.{◌≡◌, ℕ, ◌+◌, ◌^◌, ◌<◌, ◌≤◌, List, length, subst, sym, arith}
+use Rattle.std.proofs.Common.{ℕ, ◌^◌, ◌<◌, ◌≤◌, List, length, subst, sym, arith}
 use Rattle.std.proofs.lemmas.List.Sorted.{All-permutation, sum_by-IsPermutation, IsPermutation-sym, IsPermutation-trans}
-use Rattle.std.specs.List.{All, count_by}
+use Rattle.std.specs.List.{All}
 use Rattle.std.specs.List.Sorted.{IsPermutation, IsNonDecreasingBy}
 use Rattle.std.proofs.Common.{cond}
 use Rattle.nichols_core.specs.declared.layout.Edge.{Edge}
-use Rattle.nichols_core.specs.Layout.{LayoutValue, IsPlaced, CanLayOut, IsLayout, edge_at, leaves, enters, exit_place, entry_place, IsRisingBy}
+use Rattle.nichols_core.specs.Layout.{IsPlaced, CanLayOut, IsLayout, edge_at, leaves, enters, exit_place, entry_place, IsRisingBy}
 use Rattle.nichols_core.proofs.Sorted.{rising, one_each, rises, before}
 
 small_letters : (ds : List ℕ) (es : List Edge) → All (IsPlaced ds) es → (k : ℕ) → k < length es → (edge_at es k).letter ≤ 24

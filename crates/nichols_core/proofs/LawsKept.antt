@@ -163,3 +163,14 @@ release_keeps es m w b laws was =
       laid = λ k inside p. let r = laws.laid k inside p in (at (edge_at es k).lower IsBegun (λ i. absurd (idle (m.stage (edge_at es k).lower) (ap m.stage i ∙ was) r.0)) (λ _. r.0), r.1);
       published = λ c. at c (λ t. t ≡ Published → AllPicked es m c × AllLaid es m c) (λ _ e. absurd (cc)) (λ _ e. laws.published c e);
     }
+
+-- what is owed may pass from worker to worker, as long as some worker owes what was owed
+pub owed_elsewhere_keeps : (es : List Edge) (m : Machine) (owes : ℕ → ℕ → Bool) → ((w b : ℕ) → m.owes w b ≡ true → (v : ℕ) × (owes v b ≡ true)) → Laws es m → Laws es (record m { owes = owes })
+owed_elsewhere_keeps es m owes still laws = record {
+  ready = λ b is. let r = laws.ready b is in still r.0 b r.1;
+  parked = laws.parked;
+  picked = laws.picked;
+  laid = laws.laid;
+  published = laws.published;
+  untouched = laws.untouched;
+}

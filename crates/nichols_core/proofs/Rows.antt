@@ -1,5 +1,5 @@
 -- The machine's definitions on two blocks with one edge of letter 1, computed.
-use Rattle.std.proofs.Common.{◌≡◌, ℕ, Bool, true, false, List, [], ◌∷◌, refl}
+use Rattle.std.proofs.Common.{◌≡◌, Bool, true, false, List, [], ◌∷◌, refl}
 use Rattle.nichols_core.specs.declared.layout.Edge.{Edge}
 use Rattle.nichols_core.specs.declared.event.Event.{Event}
 use Rattle.nichols_core.specs.declared.event.Event.TheVariants.{Take, Ask, Pick, Lay, Publish, Release}

@@ -1,13 +1,13 @@
 -- Edges in rising order: how many share a block and a letter.
-use Rattle.std.proofs.Common.{◌≡◌, ◌≢◌, ◌⊎◌, inl, inr, ℕ, zero, suc, ◌+◌, ◌*◌, ◌<◌, ◌≤◌, Bool, true, false, true≢false, cond, eqb, ◌&&◌, List, [], ◌∷◌, length, zero-add, refl, sym, ap, ◌∙◌, subst, eq-eqb, arith}
+use Rattle.std.proofs.Common.{◌≡◌, inl, inr, ℕ, zero, suc, ◌+◌, ◌*◌, ◌<◌, ◌≤◌, Bool, true, false, cond, eqb, ◌&&◌, List, [], ◌∷◌, length, zero-add, refl, sym, ap, ◌∙◌, subst, eq-eqb, arith}
 use Rattle.std.proofs.lemmas.Bool.{eqb-true}
 use Rattle.std.proofs.lemmas.List.Sums.{get_or-le-sum_by, sum_by-cons}
 use Rattle.std.specs.List.{count_by}
 use Rattle.std.specs.List.Sorted.{IsNonDecreasingBy}
 use mathlib.Core.Logic.{dite}
-use native.Mathlib.Decide.{ℕ_discrete, dec_le}
+use native.Mathlib.Decide.{ℕ_discrete}
 use Rattle.nichols_core.specs.declared.layout.Edge.{Edge}
-use Rattle.nichols_core.specs.Layout.{edge_at, leaves, enters, exit_place, entry_place, IsRisingBy, IsBefore}
+use Rattle.nichols_core.specs.Layout.{edge_at, entry_place, IsRisingBy, IsBefore}
 use Rattle.nichols_core.proofs.Stages.{and_left, and_right}
 
 -- what stands before the next stands before all that follow

@@ -1,17 +1,17 @@
 -- What is written into the lists of a state is what the event does to the state of the machine.
-use Rattle.std.proofs.Common.{◌≡◌, ◌≢◌, ℕ, zero, suc, ◌+◌, ◌*◌, ◌%◌, ◌<◌, ◌≤◌, Bool, true, false, true≢false, cond, eqb, ltb, not, ◌&&◌, List, length, set, refl, sym, ap, ◌∙◌, subst, eq-eqb, ne_eqb, lt-ltb, arith, length-set, get_or-set_same, get_or-set_other, replicate}
-use Rattle.std.specs.Prelude.{Option, Some, None}
+use Rattle.std.proofs.Common.{◌≡◌, ℕ, zero, suc, ◌+◌, ◌*◌, ◌%◌, ◌<◌, ◌≤◌, Bool, true, false, true≢false, cond, eqb, ltb, not, ◌&&◌, List, length, set, refl, sym, ap, ◌∙◌, subst, eq-eqb, ne_eqb, lt-ltb, arith, length-set, get_or-set_same, get_or-set_other, replicate}
+use Rattle.std.specs.Prelude.{Option, Some}
 use Rattle.std.proofs.lemmas.Nat.{mod-mul-add}
 use Rattle.std.proofs.lemmas.Bool.{le-ltb}
 use Rattle.std.proofs.lemmas.List.{get_or-replicate, get_or_past, length-replicate}
-use Rattle.std.proofs.Math.Nat.{mul-le-mul_left, mul-le-mul_right}
+use Rattle.std.proofs.Math.Nat.{mul-le-mul_right}
 use mathlib.Core.Logic.{dite}
 use native.Mathlib.Decide.{ℕ_discrete, dec_le}
 use Rattle.nichols_core.specs.declared.layout.Edge.{Edge}
 use Rattle.nichols_core.specs.declared.event.Event.{Event}
 use Rattle.nichols_core.specs.declared.event.Event.TheVariants.{Take, Ask, Pick, Lay, Publish, Release}
 use Rattle.nichols_core.specs.declared.event.Stage.{Stage}
-use Rattle.nichols_core.specs.declared.event.Stage.TheVariants.{Ready, Held, Parked, Resumed, Published}
+use Rattle.nichols_core.specs.declared.event.Stage.TheVariants.{Ready, Parked, Published}
 use Rattle.nichols_core.specs.Layout.{LayoutValue, IsLayout, edge_at, edge_into, edge_out}
 use Rattle.nichols_core.specs.Machine.{Machine, put, put_owed, by_edge, some_edge, is_held_by, is_published, can, effect, after, taken, ask, pick, lay, resumed}
 use Rattle.nichols_core.specs.Laws.{Laws}

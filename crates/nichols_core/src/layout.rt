@@ -1,6 +1,7 @@
 //! Layouts: blocks with their degrees, and the edges between them.
 
 ghost use Rattle.std.specs.Prelude.{◌≡◌, ◌+◌, ◌*◌, ◌^◌, ◌<◌, ◌↔◌, length, IsTrue, IsSome, IfSome, IfOk, All, IsPermutation, vec_len};
+ghost use Rattle.std.specs.List.Sorted.{IsNonDecreasingBy};
 ghost use Rattle.nichols_core.specs.Layout.{IsPlaced, CanLayOut, IsLayout, IsRisingBy, exit_place, entry_place};
 
 use std::alloc::{AllocError, Global};
@@ -46,11 +47,11 @@ impl Layout {
         if !are_placed(&degrees, &edges) {
             return None;
         }
-        edges.sort_unstable_by_key(|edge| exit_place(edge));
+        sort_by_exit(&mut edges);
         if !leave_apart(&edges) {
             return None;
         }
-        edges.sort_unstable_by_key(|edge| entry_place(edge));
+        sort_by_entry(&mut edges);
         if !enter_apart(&edges) {
             return None;
         }
@@ -98,6 +99,20 @@ fn entry_place(edge: &Edge) -> u64
     ensures { result ≡ entry_place edge.now }
 {
     u64::from(edge.upper) * 256 + u64::from(edge.letter)
+}
+
+fn sort_by_exit(edges: &mut Vec<Edge>)
+    ensures permutation { IsPermutation edges.old.items edges.new.items }
+    ensures sorted { IsNonDecreasingBy exit_place edges.new.items }
+{
+    edges.sort_unstable_by_key(|edge| exit_place(edge));
+}
+
+fn sort_by_entry(edges: &mut Vec<Edge>)
+    ensures permutation { IsPermutation edges.old.items edges.new.items }
+    ensures sorted { IsNonDecreasingBy entry_place edges.new.items }
+{
+    edges.sort_unstable_by_key(|edge| entry_place(edge));
 }
 
 /// Whether the places at which the edges leave their lower blocks rise, so that no two are equal.

@@ -3,6 +3,7 @@
 ghost use Rattle.std.specs.Prelude.{◌≡◌, ℕ, ◌+◌, ◌*◌, ◌^◌, ◌<◌, ◌≤◌, false, length, slice_index_or, nat_lt, IfOk};
 ghost use Rattle.nichols_core.specs.Layout.{edge_at, edge_into, edge_out};
 ghost use Rattle.nichols_core.specs.Machine.{can, after, none_picked, all_picked, all_laid, is_held_by, is_resumed_by, is_published, taken, resumed};
+ghost use Rattle.nichols_core.specs.Laws.{Laws};
 ghost use Rattle.nichols_core.specs.Runs.{start};
 ghost use Rattle.nichols_core.specs.States.{machine_of, mark_at, stage_at, IsWithin, IsInRange, Applies};
 ghost use Rattle.nichols_core.specs.declared.event.Event.TheVariants.{Take, Ask, Pick, Lay, Publish, Release};
@@ -56,6 +57,13 @@ impl State {
             laid,
             picked,
         })
+    }
+
+    /// Tells a caller that the state meets the six laws.
+    pub fn meets_the_six_laws(&self)
+        ensures { Laws self.now.layout.edges (machine_of self.now) }
+    {
+        let _ = &self.stages;
     }
 
     /// Where the block stands.

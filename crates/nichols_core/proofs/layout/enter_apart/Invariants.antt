@@ -1,4 +1,4 @@
-use Rattle.std.proofs.Common.{◌≡◌, ℕ, ◌+◌, ◌<◌}
+use Rattle.std.proofs.Common.{ℕ, ◌+◌, ◌<◌}
 use Rattle.nichols_core.specs.Layout.{edge_at, entry_place}
 use Rattle.nichols_core.proofs.layout.enter_apart.Given as goal
 

@@ -1,4 +1,4 @@
-use Rattle.std.proofs.Common.{◌≡◌, ℕ, ◌<◌, Bool, true, false, not, eqb, ◌&&◌, ◌||◌, length, sym, arith, rules}
+use Rattle.std.proofs.Common.{◌≡◌, ℕ, Bool, false, not, eqb, ◌||◌, length, sym, arith, rules}
 use Rattle.nichols_core.specs.Layout.{edge_at}
 use Rattle.nichols_core.specs.States.{mark_at}
 use Rattle.nichols_core.proofs.Stages.{every_false, true_every}

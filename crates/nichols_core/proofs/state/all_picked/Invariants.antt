@@ -1,4 +1,4 @@
-use Rattle.std.proofs.Common.{◌≡◌, ℕ, ◌<◌, true, not, eqb, ◌&&◌, ◌||◌}
+use Rattle.std.proofs.Common.{◌≡◌, ℕ, ◌<◌, true, not, eqb, ◌||◌}
 use Rattle.nichols_core.specs.Layout.{edge_at}
 use Rattle.nichols_core.specs.States.{mark_at}
 use Rattle.nichols_core.proofs.state.all_picked.Given as goal

@@ -1,11 +1,10 @@
-use Rattle.std.proofs.Common.{◌≡◌, ◌≢◌, ℕ, ◌+◌, ◌*◌, ◌<◌, length, set, refl, sym, ap, ◌∙◌, subst, true, false, length-set, arith, rules}
+use Rattle.std.proofs.Common.{◌≡◌, ℕ, ◌<◌, length, set, refl, sym, ap, ◌∙◌, subst, true, false, length-set, rules}
 use Rattle.std.specs.Prelude.{Some}
-use Rattle.nichols_core.specs.declared.event.Stage.TheVariants.{Ready, Parked, Published}
 use Rattle.nichols_core.specs.declared.event.Event.TheVariants.{Pick}
-use Rattle.nichols_core.specs.Layout.{LayoutValue, edge_at, edge_into, edge_out}
-use Rattle.nichols_core.specs.Machine.{can, effect, resumed, is_published, is_held_by}
-use Rattle.nichols_core.specs.States.{StateValue, machine_of, mark_at, stage_at, IsState, IsWithin, Applies}
-use Rattle.nichols_core.proofs.StatesKept.{written, applies, block_inside, pick_does, pick_possible}
+use Rattle.nichols_core.specs.Layout.{LayoutValue, edge_at, edge_into}
+use Rattle.nichols_core.specs.Machine.{can, effect, is_published, is_held_by}
+use Rattle.nichols_core.specs.States.{StateValue, machine_of, mark_at, stage_at, IsWithin, Applies}
+use Rattle.nichols_core.proofs.StatesKept.{written, applies, pick_does, pick_possible}
 use Rattle.nichols_core.proofs.state.State.pick.Goals as goal
 
 was : (c : goal.After-self-1) → StateValue

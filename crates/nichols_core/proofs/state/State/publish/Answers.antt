@@ -1,10 +1,9 @@
-use Rattle.std.proofs.Common.{◌≡◌, ◌≢◌, ℕ, ◌+◌, ◌*◌, ◌<◌, length, set, refl, sym, ap, ◌∙◌, subst, true, false, length-set, arith, rules}
-use Rattle.std.specs.Prelude.{Some}
-use Rattle.nichols_core.specs.declared.event.Stage.TheVariants.{Ready, Parked, Published}
+use Rattle.std.proofs.Common.{◌≡◌, set, refl, sym, ap, ◌∙◌, subst, true, length-set, rules}
+use Rattle.nichols_core.specs.declared.event.Stage.TheVariants.{Published}
 use Rattle.nichols_core.specs.declared.event.Event.TheVariants.{Publish}
-use Rattle.nichols_core.specs.Layout.{LayoutValue, edge_at, edge_into, edge_out}
-use Rattle.nichols_core.specs.Machine.{can, effect, resumed, is_published, is_held_by}
-use Rattle.nichols_core.specs.States.{StateValue, machine_of, mark_at, stage_at, IsState, IsWithin, Applies}
+use Rattle.nichols_core.specs.Layout.{LayoutValue}
+use Rattle.nichols_core.specs.Machine.{can, effect}
+use Rattle.nichols_core.specs.States.{StateValue, machine_of, IsWithin, Applies}
 use Rattle.nichols_core.proofs.StatesKept.{written, applies, block_inside, publish_does}
 use Rattle.nichols_core.proofs.state.State.publish.Goals as goal
 

@@ -1,9 +1,7 @@
-use Rattle.std.proofs.Common.{◌≡◌, ℕ, List, length, replicate, refl, sym, ap, ◌∙◌, subst, false, ltb, rules}
-use Rattle.nichols_core.specs.declared.event.Stage.{Stage}
+use Rattle.std.proofs.Common.{◌≡◌, length, replicate, sym, ap, ◌∙◌, subst, false, rules}
 use Rattle.nichols_core.specs.declared.event.Stage.TheVariants.{Ready}
 use Rattle.nichols_core.specs.Layout.{LayoutValue, IsLayout}
 use Rattle.nichols_core.specs.Runs.{start}
-use Rattle.nichols_core.specs.States.{mark_at, machine_of, IsState}
 use Rattle.nichols_core.proofs.StatesKept.{started, start_kept}
 use Rattle.nichols_core.proofs.state.State.start.Goals as goal
 

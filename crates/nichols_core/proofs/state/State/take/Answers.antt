@@ -1,7 +1,7 @@
-use Rattle.std.proofs.Common.{◌≡◌, ℕ, ◌+◌, ◌*◌, length, set, refl, sym, subst, true, false, length-set, rules}
+use Rattle.std.proofs.Common.{◌≡◌, ◌+◌, ◌*◌, length, set, refl, sym, subst, true, false, length-set, rules}
 use Rattle.nichols_core.specs.declared.event.Event.TheVariants.{Take}
-use Rattle.nichols_core.specs.Machine.{can, effect, taken}
-use Rattle.nichols_core.specs.States.{StateValue, machine_of, stage_at, IsState, IsWithin, Applies}
+use Rattle.nichols_core.specs.Machine.{effect, taken}
+use Rattle.nichols_core.specs.States.{StateValue, machine_of, stage_at, IsWithin, Applies}
 use Rattle.nichols_core.proofs.StatesKept.{written, applies, take_does}
 use Rattle.nichols_core.proofs.state.State.take.Goals as goal
 
