@@ -1,11 +1,7 @@
 //! Laws of the symmetrizer and of the skew derivations, for every braid and every length.
 
-<<<<<<< HEAD
 ghost use Rattle.nichols_braid.specs.Laws.{PermutationsHoldEachOnce, SymmetrizerIsLinear, DerivationsAreLinear, DerivationRule, KilledIsRightIdeal, KilledIsDecided, KernelIsDecided, KilledIsLinear, KernelIsLinear, KilledIsIdeal};
-=======
-ghost use Rattle.nichols_braid.specs.Laws.{PermutationsHoldEachOnce, SymmetrizerIsLinear, DerivationsAreLinear, DerivationRule, KilledIsRightIdeal, KilledIsDecided, KernelIsDecided, KilledIsLinear, KernelIsLinear};
 ghost use Rattle.nichols_braid.specs.LeastLaws.{LeastWordsAreTested, BasisHasLeastWords, BasisIsIndependent, NormalFormsAreUnique, NormalFormsTellClasses, ZeroHasNoTerms, NormalFormIsLinear, LeastWordsAreNormal, AgreeingTestsReadAlike, BasisIsAmongCandidates, RelationsRise};
->>>>>>> 4aaabaa0cebc45eccbd0a5426e49eb92f0b8b34a
 
 /// The quantum symmetrizer is linear.
 #[tactic(auto, using(crate::proofs::BraidLaws::symmetrizer_is_linear))]
@@ -58,11 +54,11 @@ pub fn permutations_hold_each_once()
     ensures { PermutationsHoldEachOnce }
 {}
 
-<<<<<<< HEAD
 /// What is killed is, degree by degree, a linear subspace, kept by a letter from the right.
 pub fn killed_is_ideal()
     ensures { KilledIsIdeal }
-=======
+{}
+
 /// The test of least words says yes exactly of the words that are congruent to no combination of earlier words of their length.
 #[tactic(auto, using(crate::proofs::LeastLaws::least_words_are_tested))]
 pub fn least_words_are_tested()
@@ -125,5 +121,4 @@ pub fn basis_is_among_candidates()
 #[tactic(auto, using(crate::proofs::LeastLaws::relations_rise))]
 pub fn relations_rise()
     ensures { RelationsRise }
->>>>>>> 4aaabaa0cebc45eccbd0a5426e49eb92f0b8b34a
 {}
