@@ -1,3 +1,4 @@
 pub mod Put
 pub mod Progress
 pub mod ReportEnds
+pub mod RunEnds
