@@ -6,3 +6,4 @@ pub mod Order
 pub mod Over
 pub mod Ordered
 pub mod Building
+pub mod Together
