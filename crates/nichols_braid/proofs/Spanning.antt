@@ -1,11 +1,11 @@
 -- Lists of words that span by words that aren't behind: all words of a degree, and the candidates where the test is a right ideal.
 -- The least words are entries of each such list.
-use Rattle.std.proofs.Common.{◌≡◌, ℕ, zero, suc, ◌+◌, Bool, true, false, List, [], ◌∷◌, ◌++◌, map, length, refl, sym, ◌∙◌, ap, subst, arith, ◌⊎◌, inl, inr, length-append}
-use Rattle.std.specs.List.{filter, AllByRecursion}
+use Rattle.std.proofs.Common.{◌≡◌, ℕ, zero, suc, ◌+◌, true, false, List, [], ◌∷◌, ◌++◌, length, refl, sym, ◌∙◌, ap, subst, arith, inl, inr, length-append}
+use Rattle.std.specs.List.{AllByRecursion}
 use Rattle.std.specs.declared.cmp.Ordering.TheVariants.{Less}
 use Rattle.nichols_field.specs.Field.{FieldValue, IsField, negative}
 use Rattle.nichols_tensor.specs.Members.{IsIn}
-use Rattle.nichols_tensor.specs.Combination.{Term, Combination, AllElements, AllAmong, single, scaled, minus}
+use Rattle.nichols_tensor.specs.Combination.{Combination, AllAmong, single, scaled, minus}
 use Rattle.nichols_tensor.specs.Words.{IsWordOver, words, words_before}
 use Rattle.nichols_tensor.specs.WordOrder.{word_cmp, IsRising}
 use Rattle.nichols_tensor.proofs.Entries.{in_filter, from_filter}
@@ -20,7 +20,7 @@ use Rattle.nichols_braid.specs.RightProduct.{times_letter}
 use Rattle.nichols_braid.specs.LinearTest.{IsLinearTest}
 use Rattle.nichols_braid.specs.LeastLaws.{IsRightIdeal}
 use Rattle.nichols_braid.proofs.Maps.{times_letter-append, times_letter-scaled}
-use Rattle.nichols_braid.proofs.Congruences.{AreCongruent, IsReduced, reduced_of_each, reduced_weaker, reduced_itself}
+use Rattle.nichols_braid.proofs.Congruences.{IsReduced, reduced_of_each, reduced_weaker, reduced_itself}
 use Rattle.nichols_braid.proofs.LeastWords.{least_refutes_at}
 use Rattle.nichols_braid.proofs.Reduction.{IsUpTo, in_basis, from_basis, basis_rises, reduced_word, reduced_before_from}
 use Rattle.nichols_braid.proofs.Candidates.{in_candidates, from_candidates, candidates_rise, candidates_first, least_of}
