@@ -4,6 +4,7 @@ pub mod Entries
 pub mod Search
 pub mod Accepted
 pub mod Made
+pub mod Lists
 pub mod Maps
 pub mod Rule
 pub mod Letters
@@ -12,6 +13,9 @@ pub mod BraidLaws
 pub mod Rearranged
 pub mod Counts
 pub mod Permutations
+pub mod WordLists
+pub mod Degrees
+pub mod Prefixes
 pub mod Congruences
 pub mod LeastWords
 pub mod Reduction

@@ -5,3 +5,9 @@ pub mod Sorted
 pub mod Reduced
 pub mod LiftLaws
 mod WorkedRows
+pub mod Chain
+pub mod Summands
+pub mod Totals
+pub mod Factorisation
+pub mod Kernel
+pub mod Readings

@@ -1,16 +1,17 @@
 -- Combinations made term by term, and combinations without their zeros.
-use Rattle.std.proofs.Common.{◌≡◌, ◌≢◌, ℕ, Bool, true, false, not, cond, List, [], ◌∷◌, ◌++◌, map, refl, sym, ◌∙◌, ap, subst, nat_eq}
-use Rattle.std.specs.List.{filter, AllByRecursion}
+use Rattle.std.proofs.Common.{◌≡◌, ◌≢◌, ℕ, Bool, true, false, not, cond, List, [], ◌∷◌, ◌++◌, refl, sym, ◌∙◌, ap, subst, nat_eq, inl, inr}
+use Rattle.std.specs.List.{AllByRecursion}
 use Rattle.std.proofs.lemmas.List.{map-append, append-nil}
 use Rattle.std.proofs.lemmas.List.Elements.{filter-append}
 use Rattle.std.proofs.lemmas.Bool.Decides.{Decides-eqb}
 use Rattle.nichols_field.specs.Field.{FieldValue, IsField, IsElement, plus, times}
-use Rattle.nichols_field.proofs.FieldLaws.{plus_zero, times_is_element}
+use Rattle.nichols_field.proofs.FieldLaws.{plus_zero, times_is_element, times_eq_zero}
 use Rattle.nichols_field.proofs.FieldAlgebra.{zero_plus, chosen_is_element}
 use Rattle.nichols_tensor.specs.Combination.{Term, Combination, value_at, HasSameValues, same_letters, words_of, AllElements, AllNonzero, without_zeros, scaled}
-use Rattle.nichols_tensor.specs.WordOrder.{word_cmp, IsBelowFirst, IsRising, IsOrdered}
+use Rattle.nichols_tensor.specs.WordOrder.{IsBelowFirst, IsRising, IsOrdered}
 use Rattle.nichols_tensor.proofs.Values.{value_is_element, value_at-append, value_at-scaled}
 use Rattle.nichols_tensor.proofs.Order.{below_after, words_of-push}
+use Rattle.nichols_tensor.proofs.Over.{all-scaled}
 
 pub elements-append : (k : FieldValue) (f g : Combination) → AllElements k f → AllElements k g → AllElements k (f ++ g)
 elements-append k [] g h e = e
@@ -47,6 +48,11 @@ words_of-scaled k c (t ∷ f) = ap (λ ws. t.word ∷ ws) (words_of-scaled k c f
 
 pub scaled-push : (k : FieldValue) (c : ℕ) (f : Combination) (t : Term) → scaled k c (f ++ t ∷ []) ≡ scaled k c f ++ record { word = t.word; coefficient = times k c t.coefficient } ∷ []
 scaled-push k c f t = map-append (λ u. record { word = u.word; coefficient = times k c u.coefficient }) f (t ∷ [])
+
+pub nonzero-scaled : (k : FieldValue) → IsField k → (c : ℕ) (f : Combination) → IsElement k c → c ≢ 0 → AllElements k f → AllNonzero f → AllNonzero (scaled k c f)
+nonzero-scaled k is c [] e nonzero elements h = tt
+nonzero-scaled k is c (t ∷ f) e nonzero elements h =
+    (λ z. elim (times_eq_zero k c t.coefficient is e elements.0 z) [ inl zero_factor ↦ nonzero zero_factor | inr zero_there ↦ h.0 zero_there ], nonzero-scaled k is c f e nonzero elements.1 h.1)
 
 -- ---- without the terms whose coefficient is 0
 
@@ -124,3 +130,23 @@ rising-without_zeros (t ∷ f) r = at (not (nat_eq t.coefficient 0)) (rising-wit
 -- a combination whose words rise is in order without its zeros
 pub ordered-without_zeros : (f : Combination) → IsRising (words_of f) → IsOrdered (without_zeros f)
 ordered-without_zeros f r = record { rising = rising-without_zeros f r; nonzero = nonzero-without_zeros f }
+
+-- ---- multiples without their zeros
+
+pub value_at-multiple : (k : FieldValue) → IsField k → (c : ℕ) (f : Combination) (w : List ℕ) → value_at k (without_zeros (scaled k c f)) w ≡ times k c (value_at k f w)
+value_at-multiple k is c f w = value_at-without_zeros k is (scaled k c f) w ∙ value_at-scaled k is c f w
+
+pub ordered-multiple : (k : FieldValue) (c : ℕ) (f : Combination) → IsRising (words_of f) → IsOrdered (without_zeros (scaled k c f))
+ordered-multiple k c f r = ordered-without_zeros (scaled k c f) (subst IsRising (sym (words_of-scaled k c f)) r)
+
+pub elements-multiple : (k : FieldValue) → IsField k → (c : ℕ) (f : Combination) → AllElements k (without_zeros (scaled k c f))
+elements-multiple k is c f = all-without_zeros (λ t. IsElement k t.coefficient) (scaled k c f) (elements-scaled k is c f)
+
+-- what holds of each word still does
+pub all-multiple : (P : List ℕ → Type 0) (k : FieldValue) (c : ℕ) (f : Combination) → AllByRecursion (λ t. P t.word) f → AllByRecursion (λ t. P t.word) (without_zeros (scaled k c f))
+all-multiple P k c f h = all-without_zeros (λ t. P t.word) (scaled k c f) (all-scaled P k c f h)
+
+-- the value of one term without zeros
+pub value_at-one : (k : FieldValue) → IsField k → (t : Term) (w : List ℕ) → IsElement k t.coefficient → value_at k (without_zeros (t ∷ [])) w ≡ cond (same_letters t.word w) t.coefficient 0
+value_at-one k is t w e =
+    value_at-without_zeros k is (t ∷ []) w ∙ plus_zero k (cond (same_letters t.word w) t.coefficient 0) (chosen_is_element k (same_letters t.word w) t.coefficient is e)

@@ -2,3 +2,5 @@ pub mod Word
 pub mod Inline
 pub mod Fields
 pub mod Next
+pub mod Comb
+pub mod Relation

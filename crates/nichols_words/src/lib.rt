@@ -3,10 +3,16 @@
 
 mod comb;
 mod merge;
+mod multiples;
 mod order;
+mod relation;
 mod term;
 mod word;
 
 pub use comb::Comb;
+pub use relation::Relation;
 pub use term::Term;
 pub use word::Word;
+
+#[cfg(test)]
+mod tests;

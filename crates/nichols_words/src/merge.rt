@@ -7,21 +7,10 @@ ghost use Rattle.nichols_tensor.specs.WordOrder.{IsOrdered, IsRising};
 ghost use Rattle.nichols_words.specs.Next.{TakesNext};
 
 use crate::Term;
+use crate::multiples::multiplied;
 use nichols_field::Field;
 use std::alloc::{AllocError, Global};
 use std::cmp::Ordering;
-
-/// A term with its coefficient multiplied.
-pub fn multiplied(field: Field, by: u32, term: &Term) -> Term
-    requires factor { IsElement field by }
-    requires coefficient { IsElement field term.now.coefficient }
-    ensures { result ≡ record { word = term.now.word; coefficient = times field by term.now.coefficient } }
-{
-    Term {
-        word: term.word,
-        coefficient: field.mul(by, term.coefficient),
-    }
-}
 
 /// The next term of the sum, and what is left of both sides: the lesser word of the two first ones comes first.
 fn next<'a>(field: Field, by: u32, xs: &'a [Term], ys: &'a [Term]) -> (Term, &'a [Term], &'a [Term])

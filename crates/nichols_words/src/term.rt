@@ -4,7 +4,7 @@ use crate::Word;
 use std::marker::Model;
 
 /// A word with its coefficient, a number that stands for an element of a field.
-#[derive(Clone, Copy)]
+#[derive(Clone, Copy, PartialEq, Eq)]
 pub struct Term {
     pub word: Word,
     pub coefficient: u32,

@@ -1,0 +1,10 @@
+pub mod Shapes
+pub mod Entries
+pub mod Combinations
+pub mod Uniqueness
+pub mod Clearing
+pub mod MergeLoop
+pub mod KeptRows
+pub mod OneMore
+pub mod Reducing
+pub mod Tracing

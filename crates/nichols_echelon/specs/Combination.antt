@@ -1,0 +1,36 @@
+-- Linear combinations of rows.
+use Rattle.std.specs.Prelude.{◌≡◌, ℕ, List, [], ◌∷◌, slice_index_or}
+use Rattle.std.specs.List.{AllByRecursion}
+use Rattle.nichols_field.specs.Field.{FieldValue, plus, times}
+use Rattle.nichols_echelon.specs.Cells.{Cell, entry, AllElements, AllBelow}
+
+-- the row at a position, from 0
+abbrev pub row_at : List (List Cell) → ℕ → List Cell
+row_at rows k = slice_index_or rows k []
+
+-- each coefficient of each row is an element of the field
+abbrev pub AllRowsElements : FieldValue → List (List Cell) → Type 0
+AllRowsElements field rows = AllByRecursion (λ row. AllElements field row) rows
+
+-- the entry at a column of a combination of rows: each cell is the position of a row with its coefficient
+unfoldable pub combined : FieldValue → List (List Cell) → List Cell → ℕ → ℕ
+combined field rows [] column = 0
+combined field rows (c ∷ cells) column = plus field (times field c.coefficient (entry field (row_at rows c.column) column)) (combined field rows cells column)
+
+-- the row at a position is, at every column, this combination of the rows before it
+pub record IsCombination (field : FieldValue) (rows : List (List Cell)) (k : ℕ) (cells : List Cell) : Type 0 where
+  pub earlier : AllBelow k cells
+  pub elements : AllElements field cells
+  pub value : (column : ℕ) → entry field (row_at rows k) column ≡ combined field rows cells column
+
+-- the row at a position is some combination of the rows before it
+abbrev pub IsDependent : FieldValue → List (List Cell) → ℕ → Type 0
+IsDependent field rows k = (cells : List Cell) × IsCombination field rows k cells
+
+-- each column is the position of a row that is no combination of the rows before it
+abbrev pub AllFree : FieldValue → List (List Cell) → List Cell → Type 0
+AllFree field rows cells = AllByRecursion (λ c. IsDependent field rows c.column → ⊥) cells
+
+-- two lists of positions with coefficients give the same combination of the rows
+abbrev pub AreEqualCombinations : FieldValue → List (List Cell) → List Cell → List Cell → Type 0
+AreEqualCombinations field rows xs ys = (column : ℕ) → combined field rows xs column ≡ combined field rows ys column

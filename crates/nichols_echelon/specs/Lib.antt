@@ -1,0 +1,6 @@
+pub mod Cells
+pub mod Combination
+pub mod Split
+pub mod Echelon
+pub mod Settled
+pub mod Next

@@ -1,0 +1,26 @@
+//! Sparse elimination: which rows depend on the rows before them.
+#![tactic(auto)]
+
+ghost use Rattle.std.specs.Prelude.{◌<◌, ◌^◌, IfOk, length};
+ghost use Rattle.nichols_echelon.specs.Combination.{AllRowsElements};
+ghost use Rattle.nichols_echelon.specs.Split.{IsSplit};
+
+use nichols_field::Field;
+use std::alloc::{AllocError, Global};
+
+mod keeping;
+pub mod laws;
+mod merging;
+mod plain;
+mod rows;
+
+pub use rows::{Cell, Place, Row};
+
+/// Which rows depend on the rows before them: one place for each row.
+pub fn split_rows(alloc: Global, field: Field, rows: &[Row]) -> Result<Vec<Place>, AllocError>
+    requires elements { AllRowsElements field rows.now }
+    requires count { length rows.now < 2 ^ 32 }
+    ensures { IfOk result (λ places. IsSplit field rows.now places.items) }
+{
+    plain::split_rows_plain(alloc, field, rows)
+}

@@ -1,0 +1,5 @@
+pub mod Counts
+pub mod Bytes
+pub mod Source
+pub mod Sink
+pub mod Memory

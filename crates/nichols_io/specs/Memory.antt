@@ -1,0 +1,44 @@
+-- What contracts see of the sources and sinks in memory.
+use Rattle.std.specs.Prelude.{◌≡◌, ℕ, List, drop}
+use Rattle.nichols_io.specs.declared.sources.Got.{Got}
+use Rattle.nichols_io.specs.declared.sources.Got.TheVariants.{Bytes, End, Failed}
+use Rattle.nichols_io.specs.declared.sinks.Put.{Put}
+use Rattle.nichols_io.specs.declared.sinks.Put.TheVariants.{Took, Failed as PutFailed}
+use Rattle.nichols_io.specs.Counts.{following}
+
+-- a source that fails at the calls with these numbers
+pub record MemorySourceState : Type 0 where
+  pub left : List ℕ
+  -- the most bytes that one read gives
+  pub chunk : ℕ
+  pub failing : List ℕ
+  pub calls : ℕ
+  pub faults : ℕ
+
+-- a sink that fails at the calls with these numbers, and where it has no room
+pub record MemorySinkState : Type 0 where
+  pub taken : List ℕ
+  -- for how many bytes room is left
+  pub room : ℕ
+  -- the most bytes that one write takes
+  pub most : ℕ
+  pub failing : List ℕ
+  pub calls : ℕ
+  pub faults : ℕ
+
+-- a read changes no byte of the buffer beyond those that it gives
+abbrev pub KeepsRest : Got → List ℕ → List ℕ → Type 0
+KeepsRest (Bytes k) before after = drop k after ≡ drop k before
+KeepsRest End before after = after ≡ before
+KeepsRest Failed before after = after ≡ before
+
+-- a count of faults rises by one at a read that fails, and stays at each other
+abbrev pub CountsRead : Got → ℕ → ℕ → Type 0
+CountsRead (Bytes k) before after = after ≡ before
+CountsRead End before after = after ≡ before
+CountsRead Failed before after = after ≡ following before
+
+-- a count of faults rises by one at a write that fails, and stays at each other
+abbrev pub CountsWrite : Put → ℕ → ℕ → Type 0
+CountsWrite (Took k) before after = after ≡ before
+CountsWrite PutFailed before after = after ≡ following before

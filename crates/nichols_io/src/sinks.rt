@@ -1,0 +1,33 @@
+//! Sinks for bytes.
+
+ghost use Rattle.std.specs.Prelude.{◌<◌, ◌≤◌, ℕ, List, length};
+ghost use Rattle.std.specs.declared.option.Option.{Option};
+ghost use Rattle.nichols_io.specs.Counts.{Rose};
+ghost use Rattle.nichols_io.specs.Bytes.{TellsAlike};
+ghost use Rattle.nichols_io.specs.Sink.{Writes, OnWriteFailed};
+
+/// What a write took.
+#[derive(Clone, Copy, PartialEq, Eq, Debug)]
+pub enum Put {
+    /// So many bytes were taken, at least one, from the front of the piece.
+    Took(usize),
+    /// The sink failed. It took nothing.
+    Failed,
+}
+
+/// A sink for bytes.
+pub trait Sink {
+    // The bytes taken, where the sink tells them.
+    ghost taken: { Self → Option (List ℕ) };
+
+    // How often the sink has failed, up to the last value of the sink's counter.
+    ghost faults: { Self → ℕ };
+
+    /// Writes the front of a piece that isn't empty.
+    fn write(&mut self, piece: &[u8]) -> Put
+        requires { 0 < length piece.now }
+        ensures bytes { Writes result piece.now (taken self.old) (taken self.new) }
+        ensures told { TellsAlike (taken self.old) (taken self.new) }
+        ensures cause { OnWriteFailed result (Rose (faults self.old) (faults self.new)) }
+        ensures count { faults self.old ≤ faults self.new };
+}

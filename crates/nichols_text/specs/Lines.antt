@@ -1,0 +1,23 @@
+-- The texts of one line.
+use Rattle.std.specs.Prelude.{ℕ, List, ◌++◌, codes, decimal, Option, None, Some}
+
+unfoldable pub usage_text : List ℕ
+usage_text = codes "usage: nichols algebra or reduce or symmetrize or points K [--degree N] [--rows N] [--workers N] [--window N] [--brief]\n"
+
+unfoldable pub read_fault_text : List ℕ
+read_fault_text = codes "read fault\n"
+
+-- what is said of a document that isn't built into a braid
+unfoldable pub not_built_text : List ℕ
+not_built_text = codes "not built\n"
+
+-- `refused: not distributive at <i> <j> <k>: <left> and <right>`
+unfoldable pub not_distributive_text : ℕ → ℕ → ℕ → ℕ → ℕ → List ℕ
+not_distributive_text i j k left right =
+    codes "refused: not distributive at " ++ decimal i ++ codes " " ++ decimal j ++ codes " " ++ decimal k
+    ++ codes ": " ++ decimal left ++ codes " and " ++ decimal right ++ codes "\n"
+
+-- `memory last <m>` with the last degree whose piece was taken, or `memory last none`
+unfoldable pub memory_text : Option ℕ → List ℕ
+memory_text None = codes "memory last none\n"
+memory_text (Some m) = codes "memory last " ++ decimal m ++ codes "\n"

@@ -1,0 +1,41 @@
+-- The pieces of a report: its header, a degree, its end.
+use Rattle.std.specs.Prelude.{ℕ, Bool, List, ◌++◌, codes, decimal, length, if◌then◌else◌}
+use Rattle.std.specs.List.{flat_map}
+use Rattle.nichols_field.specs.Field.{modulus_of}
+use Rattle.nichols_braid.specs.Braid.{BraidValue}
+use Rattle.nichols_braid.specs.Least.{PlainRelation}
+use Rattle.nichols_text.specs.Words.{word_text, relation_line}
+use Rattle.nichols_text.specs.declared.end.EndLine.{EndLine}
+use Rattle.nichols_text.specs.declared.end.EndLine.TheVariants.{Closed, DegreeLimit}
+
+-- `nichols p <p> letters <n> degree <degree limit> rows <rows limit>`
+unfoldable pub header_piece : BraidValue → ℕ → ℕ → List ℕ
+header_piece braid degree_limit rows_limit =
+    codes "nichols p " ++ decimal (modulus_of braid.field) ++ codes " letters " ++ decimal braid.letters
+    ++ codes " degree " ++ decimal degree_limit ++ codes " rows " ++ decimal rows_limit ++ codes "\n"
+
+-- `degree <m> dimension <d>`
+unfoldable pub dimension_line : ℕ → ℕ → List ℕ
+dimension_line m d = codes "degree " ++ decimal m ++ codes " dimension " ++ decimal d ++ codes "\n"
+
+-- `basis`, with each word after a space
+unfoldable pub basis_line : List (List ℕ) → List ℕ
+basis_line basis = codes "basis" ++ flat_map (λ w. codes " " ++ word_text w) basis ++ codes "\n"
+
+-- a degree with its basis and its relations; in brief form the line of its dimension alone
+unfoldable pub degree_piece : ℕ → List (List ℕ) → List PlainRelation → Bool → List ℕ
+degree_piece m basis relations brief =
+    if brief then dimension_line m (length basis) else dimension_line m (length basis) ++ basis_line basis ++ flat_map relation_line relations
+
+-- `closed top <m> dimension <sum>`, or `stopped degree limit last <m>`
+unfoldable pub end_line : EndLine → List ℕ
+end_line (Closed top dimension) = codes "closed top " ++ decimal top ++ codes " dimension " ++ decimal dimension ++ codes "\n"
+end_line (DegreeLimit last) = codes "stopped degree limit last " ++ decimal last ++ codes "\n"
+
+-- `hilbert`, with each dimension after a space
+unfoldable pub hilbert_line : List ℕ → List ℕ
+hilbert_line dimensions = codes "hilbert" ++ flat_map (λ d. codes " " ++ decimal d) dimensions ++ codes "\n"
+
+-- the end line and the Hilbert line
+unfoldable pub end_piece : EndLine → List ℕ → List ℕ
+end_piece line dimensions = end_line line ++ hilbert_line dimensions

@@ -1,0 +1,7 @@
+-- Relations between words as contracts see them.
+use Rattle.std.specs.Prelude.{ℕ, List}
+use Rattle.nichols_tensor.specs.Combination.{Combination}
+
+-- a word, and the combination that it equals
+abbrev pub PlainRelation : Type 0
+PlainRelation = record { candidate : List ℕ; form : Combination }
