@@ -26,3 +26,4 @@ pub mod Agreement
 pub mod Spanning
 pub mod Rows
 pub mod LeastLaws
+pub mod Functionals
