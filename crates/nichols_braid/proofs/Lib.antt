@@ -27,3 +27,4 @@ pub mod Spanning
 pub mod Rows
 pub mod LeastLaws
 pub mod Functionals
+pub mod FirstDegree
