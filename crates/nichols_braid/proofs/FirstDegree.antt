@@ -1,8 +1,7 @@
 -- Degree 0: its one word, the empty one, is least, and there are no relations.
-use Rattle.std.proofs.Common.{◌≡◌, ℕ, Bool, true, not, cond, List, [], ◌∷◌, length, map, refl, sym, ◌∙◌, ap}
+use Rattle.std.proofs.Common.{◌≡◌, ℕ, true, not, cond, List, [], ◌∷◌, length, map, refl, sym, ◌∙◌, ap}
 use Rattle.std.specs.List.{filter}
-use Rattle.std.specs.declared.cmp.Ordering.{Ordering}
-use Rattle.std.specs.declared.cmp.Ordering.TheVariants.{Less, Equal}
+use Rattle.std.specs.declared.cmp.Ordering.TheVariants.{Less}
 use Rattle.nichols_field.specs.Field.{FieldValue, IsField}
 use Rattle.nichols_field.proofs.FieldLaws.{plus_zero, one_is_element}
 use Rattle.nichols_tensor.specs.Combination.{Combination, IsZero, AllElements, AllAmong, single, minus}
@@ -12,7 +11,7 @@ use Rattle.nichols_tensor.proofs.Order.{less_is_other}
 use Rattle.nichols_tensor.proofs.AllWords.{from_words_before}
 use Rattle.nichols_braid.specs.Braid.{BraidValue}
 use Rattle.nichols_braid.specs.Kernel.{is_killed}
-use Rattle.nichols_braid.specs.Least.{is_least, basis, candidates, relations}
+use Rattle.nichols_braid.specs.Least.{is_least, basis, relations}
 use Rattle.nichols_braid.proofs.Killed.{is_killed_sound}
 use Rattle.nichols_braid.proofs.Congruences.{AreCongruent}
 use Rattle.nichols_braid.proofs.LeastWords.{least_unless}

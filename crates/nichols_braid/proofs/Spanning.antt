@@ -65,10 +65,12 @@ times_letter-minus k f g b = times_letter-append f (scaled k (negative k 1) g) b
 with_letter : (vanishes : Vanishing) (braid : BraidValue) → IsIdealTest braid (vanishes braid) → (m : ℕ) (u : List ℕ) (b : ℕ) → length u ≡ m → IsWordOver braid.letters u → IsLetter braid b →
     IsReduced braid.field (vanishes braid m) (λ v. IsIn v (basis vanishes braid m) × IsUpTo u v) (single u) →
     IsReduced braid.field (vanishes braid (suc m)) (λ v. IsIn v (candidates vanishes braid (suc m)) × IsUpTo (u ++ b ∷ []) v) (single (u ++ b ∷ []))
-with_letter vanishes braid ideal m u b e o letter (g, a, c) =
-    (times_letter g b, each g a,
-    subst (λ h. vanishes braid (suc m) h ≡ true) (times_letter-minus braid.field (single u) g b)
-    (ideal.right m (minus braid.field (single u) g) b (minus_degree braid.field m (single u) g (e, tt) (degree g a)) (minus_over braid.field braid.letters (single u) g (o, tt) (over g a)) letter c))
+with_letter vanishes braid ideal m u b e o letter (g, a, c) = (
+  times_letter g b,
+  each g a,
+  subst (λ h. vanishes braid (suc m) h ≡ true) (times_letter-minus braid.field (single u) g b)
+      (ideal.right m (minus braid.field (single u) g) b (minus_degree braid.field m (single u) g (e, tt) (degree g a)) (minus_over braid.field braid.letters (single u) g (o, tt) (over g a)) letter c),
+)
   where
     degree : (g : Combination) → AllByRecursion (λ t. IsIn t.word (basis vanishes braid m) × IsUpTo u t.word) g → HasDegree m g
     degree [] h = tt
