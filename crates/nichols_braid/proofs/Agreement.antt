@@ -1,10 +1,10 @@
 -- Two tests that agree on the combinations of words of each degree: all that is read in them is the same.
-use Rattle.std.proofs.Common.{◌≡◌, ℕ, zero, suc, Bool, not, List, [], ◌∷◌, ◌++◌, map, length, refl, sym, ◌∙◌, ap, subst}
-use Rattle.std.specs.Prelude.{Option, unwrap_or, find}
-use Rattle.std.specs.List.{flat_map, filter, AllByRecursion}
+use Rattle.std.proofs.Common.{◌≡◌, ℕ, zero, suc, not, List, [], ◌∷◌, ◌++◌, map, length, refl, ◌∙◌, ap}
+use Rattle.std.specs.Prelude.{unwrap_or, find}
+use Rattle.std.specs.List.{flat_map, filter}
 use Rattle.nichols_field.specs.Field.{FieldValue, negative}
 use Rattle.nichols_tensor.specs.Members.{IsIn}
-use Rattle.nichols_tensor.specs.Combination.{Combination, AllAmong, words_of, single, scaled, minus, without_zeros}
+use Rattle.nichols_tensor.specs.Combination.{Combination, AllAmong, single, scaled, minus, without_zeros}
 use Rattle.nichols_tensor.specs.Words.{up_to, IsWordOver, IsOver, HasDegree, words, words_before, combinations}
 use Rattle.nichols_tensor.proofs.Entries.{from_filter}
 use Rattle.nichols_tensor.proofs.Enumeration.{enumerated_words, among_from_words}

@@ -1,11 +1,11 @@
 -- Congruence for a linear test: the difference passes the test. It sees values alone, is an equivalence, and is kept by sums and
 -- multiples; so a combination is congruent to one of certain words where each of its words is.
-use Rattle.std.proofs.Common.{◌≡◌, ℕ, Bool, true, false, List, [], ◌∷◌, ◌++◌, map, refl, sym, ◌∙◌, ap}
+use Rattle.std.proofs.Common.{◌≡◌, ℕ, Bool, true, List, [], ◌∷◌, ◌++◌, refl, sym, ◌∙◌, ap}
 use Rattle.std.specs.List.{AllByRecursion}
 use Rattle.nichols_field.specs.Field.{FieldValue, IsField, IsElement, plus, times, negative}
-use Rattle.nichols_field.proofs.FieldLaws.{plus_comm, plus_assoc, times_plus, times_zero, opposite_sum, zero_is_element, times_is_element, plus_zero}
+use Rattle.nichols_field.proofs.FieldLaws.{plus_comm, plus_assoc, times_plus, times_zero, opposite_sum, times_is_element, plus_zero}
 use Rattle.nichols_field.proofs.FieldAlgebra.{zero_plus, one_times, swap_middle, swap_factors, negative_twice}
-use Rattle.nichols_tensor.specs.Combination.{Term, Combination, value_at, HasSameValues, IsZero, AllElements, single, scaled, minus, extended}
+use Rattle.nichols_tensor.specs.Combination.{Combination, value_at, HasSameValues, IsZero, AllElements, single, scaled, minus, extended}
 use Rattle.nichols_tensor.proofs.Values.{value_is_element, value_at-append, value_at-scaled, value_at-minus}
 use Rattle.nichols_tensor.proofs.Linear.{minus_is_zero}
 use Rattle.nichols_tensor.proofs.Over.{all-append, all-scaled}

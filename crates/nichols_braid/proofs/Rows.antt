@@ -1,18 +1,18 @@
 -- Rows of numbers that tell which combinations of a list's words are zero in the algebra: a word of the list is least exactly where
 -- its row is no combination of the rows before it, and such a combination of least words' rows is its normal form.
-use Rattle.std.proofs.Common.{◌≡◌, ◌≢◌, ℕ, zero, suc, ◌<◌, Bool, true, false, List, [], ◌∷◌, ◌++◌, map, length, refl, sym, ◌∙◌, ap, subst, arith, ◌⊎◌, inl, inr}
+use Rattle.std.proofs.Common.{◌≡◌, ℕ, ◌<◌, Bool, true, false, List, [], ◌∷◌, length, refl, sym, ◌∙◌, ap, subst, arith}
 use Rattle.std.specs.List.{AllByRecursion}
 use Rattle.std.specs.declared.cmp.Ordering.TheVariants.{Less}
 use Rattle.nichols_field.specs.Field.{FieldValue, IsField, IsElement, plus, times, negative}
 use Rattle.nichols_field.proofs.FieldLaws.{plus_zero, one_is_element}
 use Rattle.nichols_field.proofs.FieldAlgebra.{one_times, difference_of_same, same_from_difference}
 use Rattle.nichols_tensor.specs.Members.{IsIn}
-use Rattle.nichols_tensor.specs.Combination.{Term, Combination, AllElements, AllNonzero, AllAmong, words_of, single, scaled, minus}
+use Rattle.nichols_tensor.specs.Combination.{Combination, AllElements, AllNonzero, AllAmong, words_of, single, scaled, minus}
 use Rattle.nichols_tensor.specs.Positions.{word_at}
-use Rattle.nichols_tensor.specs.Words.{IsWordOver, words_before}
-use Rattle.nichols_tensor.specs.WordOrder.{word_cmp, IsBelowFirst, IsRising, IsOrdered}
+use Rattle.nichols_tensor.specs.Words.{words_before}
+use Rattle.nichols_tensor.specs.WordOrder.{word_cmp, IsBelowFirst, IsRising}
 use Rattle.nichols_tensor.proofs.Values.{weight, weight_is_element, weight-append, weight-scaled}
-use Rattle.nichols_tensor.proofs.Enumeration.{among-append, among-scaled, among_weaker}
+use Rattle.nichols_tensor.proofs.Enumeration.{among-append, among-scaled}
 use Rattle.nichols_tensor.proofs.Building.{elements-append, elements-scaled}
 use Rattle.nichols_tensor.proofs.Rising.{word_at_is_in, position_of, words_at_rise, position_below}
 use Rattle.nichols_tensor.proofs.AllWords.{in_words_before}
@@ -20,10 +20,9 @@ use Rattle.nichols_braid.specs.Braid.{BraidValue}
 use Rattle.nichols_braid.specs.Kernel.{Vanishing}
 use Rattle.nichols_braid.specs.Least.{is_least, basis, normal_form}
 use Rattle.nichols_braid.specs.LinearTest.{IsLinearTest}
-use Rattle.nichols_braid.specs.LeastLaws.{IsNormalForm}
 use Rattle.nichols_braid.specs.Rows.{Cell, made, columns_of, AreRising, AllCellsBelow, AllCellsNonzero, AllCellsElements, combined_numbers}
 use Rattle.nichols_braid.specs.Rows.{IsBelowFirst as IsColumnBelow}
-use Rattle.nichols_braid.proofs.Congruences.{AreCongruent, IsReduced, reduced_with_elements}
+use Rattle.nichols_braid.proofs.Congruences.{AreCongruent, reduced_with_elements}
 use Rattle.nichols_braid.proofs.LeastWords.{not_least_at}
 use Rattle.nichols_braid.proofs.Reduction.{in_basis}
 use Rattle.nichols_braid.proofs.NormalForms.{form_is}
