@@ -12,3 +12,6 @@ pub mod BraidLaws
 pub mod Rearranged
 pub mod Counts
 pub mod Permutations
+pub mod WordLists
+pub mod Degrees
+pub mod Prefixes

@@ -11,5 +11,6 @@ pub mod Tables
 pub mod RightProduct
 pub mod LinearTest
 pub mod LinearMap
-pub mod Laws
 pub mod Rearrangement
+pub mod IdealTest
+pub mod Laws

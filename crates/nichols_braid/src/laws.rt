@@ -1,6 +1,6 @@
 //! Laws of the symmetrizer and of the skew derivations, for every braid and every length.
 
-ghost use Rattle.nichols_braid.specs.Laws.{PermutationsHoldEachOnce, SymmetrizerIsLinear, DerivationsAreLinear, DerivationRule, KilledIsRightIdeal, KilledIsDecided, KernelIsDecided, KilledIsLinear, KernelIsLinear};
+ghost use Rattle.nichols_braid.specs.Laws.{PermutationsHoldEachOnce, SymmetrizerIsLinear, DerivationsAreLinear, DerivationRule, KilledIsRightIdeal, KilledIsDecided, KernelIsDecided, KilledIsLinear, KernelIsLinear, KilledIsIdeal};
 
 /// The quantum symmetrizer is linear.
 #[tactic(auto, using(crate::proofs::BraidLaws::symmetrizer_is_linear))]
@@ -51,4 +51,9 @@ pub fn kernel_is_linear()
 /// The list of permutations of m places holds each rearrangement of 1 to m exactly once.
 pub fn permutations_hold_each_once()
     ensures { PermutationsHoldEachOnce }
+{}
+
+/// What is killed is, degree by degree, a linear subspace, kept by a letter from the right.
+pub fn killed_is_ideal()
+    ensures { KilledIsIdeal }
 {}

@@ -19,7 +19,7 @@ use Rattle.nichols_braid.proofs.Maps.{extended_same_on, extended_identity, times
 use Rattle.nichols_braid.proofs.Killed.{killed-times_letter, is_killed_sound, is_killed_complete, is_in_kernel_sound, is_in_kernel_complete}
 use Rattle.nichols_lift.proofs.Totals.{total_same, total_zero, one_letter, value_at-flat_map}
 use Rattle.nichols_lift.proofs.Factorisation.{factors}
-use Rattle.nichols_lift.proofs.Degrees.{derived_degree, derived_over, times_letter_degree, times_letter_over}
+use Rattle.nichols_braid.proofs.Degrees.{derived_degree, derived_over, times_letter_degree, times_letter_over}
 
 -- ---- words with different last letters differ
 

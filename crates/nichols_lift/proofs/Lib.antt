@@ -9,5 +9,5 @@ pub mod Chain
 pub mod Summands
 pub mod Totals
 pub mod Factorisation
-pub mod Degrees
 pub mod Kernel
+pub mod Readings

@@ -19,9 +19,10 @@ use Rattle.nichols_braid.specs.Rearrangement.{IsRearrangement}
 use Rattle.nichols_braid.specs.RightProduct.{times_letter}
 use Rattle.nichols_braid.proofs.Rearranged.{consecutive, up_to_is_consecutive, rearranged_length, rearranged_bounds}
 use Rattle.nichols_braid.proofs.Permutations.{inserted_is_rearrangement, listed_is_rearrangement, insert_between}
+use Rattle.nichols_braid.proofs.WordLists.{pushed_length}
 use Rattle.nichols_lift.proofs.Bubble.{bubble_descends}
 use Rattle.nichols_lift.proofs.Reduced.{term, reduced_list, lift_is_closed}
-use Rattle.nichols_lift.proofs.Chain.{length-push, carried, descending_inserted, behind, multiple, crossed_within, crossed-append, crossed_multiple}
+use Rattle.nichols_lift.proofs.Chain.{carried, descending_inserted, behind, multiple, crossed_within, crossed-append, crossed_multiple}
 
 mapped : (f : ℕ → ℕ) (xs : List ℕ) → length (map f xs) ≡ length xs
 mapped f [] = refl
@@ -117,7 +118,7 @@ blocks_are_summands braid is m front (a ∷ u) w e size over =
     let count : length front + length u ≡ m = (let l : length front + suc (length u) ≡ suc m = sym (length-append front (a ∷ u)) ∙ ap length e ∙ size in omega arith) in
     ap₂ (λ f r. f ++ r)
     (ap (λ x. block braid m x (suc (length front))) (sym e) ∙ block_is_lifted braid is m front a u count (subst (IsWordOver braid.letters) (sym e) over))
-    (ap (λ n. flat_map (block braid m w) (consecutive (suc n) (length u))) (sym (length-push front a)) ∙ blocks_are_summands braid is m next u w (append_assoc front (a ∷ []) u ∙ e) size over)
+    (ap (λ n. flat_map (block braid m w) (consecutive (suc n) (length u))) (sym (pushed_length front a)) ∙ blocks_are_summands braid is m next u w (append_assoc front (a ∷ []) u ∙ e) size over)
 
 map-flat_map : {X Y : Type 0} (f : X → Y) (g : ℕ → List X) (js : List ℕ) → map f (flat_map g js) ≡ flat_map (λ j. map f (g j)) js
 map-flat_map f g [] = refl

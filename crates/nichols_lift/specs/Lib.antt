@@ -1,2 +1,3 @@
 pub mod ClosedForm
 pub mod Laws
+pub mod Reading

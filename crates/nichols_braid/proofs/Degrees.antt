@@ -1,14 +1,14 @@
--- A skew derivation takes one letter off each word, and keeps the letters those of the braid.
+-- The degrees and letters of derivatives, products with a letter, and differences.
 use Rattle.std.proofs.Common.{◌≡◌, ℕ, zero, suc, ◌≤◌, Bool, true, false, List, [], ◌∷◌, ◌++◌, map, length, refl, ◌∙◌, ap, arith, nat_eq}
 use Rattle.std.specs.Prelude.{if◌then◌else◌}
 use Rattle.std.specs.List.{AllByRecursion}
-use Rattle.nichols_field.specs.Field.{FieldValue}
-use Rattle.nichols_tensor.specs.Combination.{Term, Combination, scaled, extended}
+use Rattle.nichols_field.specs.Field.{FieldValue, negative}
+use Rattle.nichols_tensor.specs.Combination.{Term, Combination, scaled, minus, extended}
 use Rattle.nichols_tensor.specs.Words.{IsWordOver, IsOver, HasDegree}
 use Rattle.nichols_braid.specs.Braid.{BraidValue, IsLetter, IsRack, act}
 use Rattle.nichols_braid.specs.Derivation.{scalars_met, derived_word, derived}
 use Rattle.nichols_braid.specs.RightProduct.{times_letter}
-use Rattle.nichols_lift.proofs.Chain.{length-push}
+use Rattle.nichols_braid.proofs.WordLists.{pushed_length, pushed_over}
 
 -- ---- what holds of the words of each term
 
@@ -86,12 +86,16 @@ derived_over braid rack a l f h = words-extended (IsWordOver braid.letters) (IsW
 
 -- ---- products with a letter
 
-pub word_over-push : (n : ℕ) (w : List ℕ) (b : ℕ) → IsWordOver n w → (1 ≤ b) × (b ≤ n) → IsWordOver n (w ++ b ∷ [])
-word_over-push n [] b h l = (l, tt)
-word_over-push n (x ∷ w) b h l = (h.0, word_over-push n w b h.1 l)
-
 pub times_letter_degree : (m : ℕ) (f : Combination) (b : ℕ) → HasDegree m f → HasDegree (suc m) (times_letter f b)
-times_letter_degree m f b h = words-times_letter (λ w. length w ≡ m) (λ w. length w ≡ suc m) b (λ w e. length-push w b ∙ ap suc e) f h
+times_letter_degree m f b h = words-times_letter (λ w. length w ≡ m) (λ w. length w ≡ suc m) b (λ w e. pushed_length w b ∙ ap suc e) f h
 
 pub times_letter_over : (n : ℕ) (f : Combination) (b : ℕ) → (1 ≤ b) × (b ≤ n) → IsOver n f → IsOver n (times_letter f b)
-times_letter_over n f b l h = words-times_letter (IsWordOver n) (IsWordOver n) b (λ w over. word_over-push n w b over l) f h
+times_letter_over n f b l h = words-times_letter (IsWordOver n) (IsWordOver n) b (λ w over. pushed_over n w b over l) f h
+
+-- ---- differences
+
+pub minus_degree : (k : FieldValue) (m : ℕ) (f g : Combination) → HasDegree m f → HasDegree m g → HasDegree m (minus k f g)
+minus_degree k m f g h l = words-append (λ w. length w ≡ m) f (scaled k (negative k 1) g) h (words-scaled (λ w. length w ≡ m) k (negative k 1) g l)
+
+pub minus_over : (k : FieldValue) (n : ℕ) (f g : Combination) → IsOver n f → IsOver n g → IsOver n (minus k f g)
+minus_over k n f g h l = words-append (IsWordOver n) f (scaled k (negative k 1) g) h (words-scaled (IsWordOver n) k (negative k 1) g l)
