@@ -15,3 +15,7 @@ pub mod Permutations
 pub mod WordLists
 pub mod Degrees
 pub mod Prefixes
+pub mod Congruences
+pub mod LeastWords
+pub mod Reduction
+pub mod Independence

@@ -14,3 +14,4 @@ pub mod LinearMap
 pub mod Rearrangement
 pub mod IdealTest
 pub mod Laws
+pub mod LeastLaws
