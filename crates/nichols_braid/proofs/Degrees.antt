@@ -1,7 +1,8 @@
 -- The degrees and letters of derivatives, products with a letter, and differences.
-use Rattle.std.proofs.Common.{◌≡◌, ℕ, zero, suc, ◌≤◌, Bool, true, false, List, [], ◌∷◌, ◌++◌, map, length, refl, ◌∙◌, ap, arith, nat_eq}
+use Rattle.std.proofs.Common.{◌≡◌, ℕ, zero, suc, ◌≤◌, Bool, true, false, List, [], ◌∷◌, ◌++◌, map, length, ◌∙◌, ap, arith, nat_eq}
 use Rattle.std.specs.Prelude.{if◌then◌else◌}
 use Rattle.std.specs.List.{AllByRecursion}
+use Rattle.std.proofs.lemmas.List.{length-map}
 use Rattle.nichols_field.specs.Field.{FieldValue, negative}
 use Rattle.nichols_tensor.specs.Combination.{Term, Combination, scaled, minus, extended}
 use Rattle.nichols_tensor.specs.Words.{IsWordOver, IsOver, HasDegree}
@@ -43,10 +44,6 @@ words-here P false t h = tt
 
 -- ---- derivatives
 
-map_length : (f : ℕ → ℕ) (xs : List ℕ) → length (map f xs) ≡ length xs
-map_length f [] = refl
-map_length f (x ∷ xs) = ap suc (map_length f xs)
-
 derived_word_degree : (braid : BraidValue) (a m : ℕ) (w : List ℕ) → length w ≡ suc m → HasDegree m (derived_word braid a w)
 unfolding derived_word
 derived_word_degree braid a m [] size = tt
@@ -57,7 +54,7 @@ derived_word_degree braid a m (x ∷ []) size = words-append (λ w. length w ≡
 derived_word_degree braid a zero (x ∷ y ∷ w) size = absurd (omega arith)
 derived_word_degree braid a (suc m) (x ∷ y ∷ w) size =
     words-append (λ v. length v ≡ suc m) (if nat_eq a x then now ∷ [] else []) (map (λ t. record { word = x ∷ t.word; coefficient = t.coefficient }) (derived_word braid a (y ∷ w)))
-    (words-here (λ v. length v ≡ suc m) (nat_eq a x) now (map_length (act braid a) (y ∷ w) ∙ (omega arith)))
+    (words-here (λ v. length v ≡ suc m) (nat_eq a x) now (length-map (y ∷ w) (act braid a) ∙ (omega arith)))
     (words-prefixed (λ v. length v ≡ m) (λ v. length v ≡ suc m) x (λ v h. ap suc h) (derived_word braid a (y ∷ w)) (derived_word_degree braid a m (y ∷ w) (omega arith)))
   where
     now : Term

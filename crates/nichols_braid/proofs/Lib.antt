@@ -4,6 +4,7 @@ pub mod Entries
 pub mod Search
 pub mod Accepted
 pub mod Made
+pub mod Lists
 pub mod Maps
 pub mod Rule
 pub mod Letters

@@ -11,15 +11,8 @@ use Rattle.nichols_tensor.specs.Combination.{Combination, words_of}
 use Rattle.nichols_tensor.specs.WordOrder.{word_cmp}
 use Rattle.nichols_tensor.specs.Words.{up_to, IsLetterOf, IsWordOver, words, words_before}
 use Rattle.nichols_tensor.proofs.Entries.{in_map, from_map, in_flat_map, from_flat_map, in_filter, from_filter}
+use Rattle.nichols_braid.proofs.Lists.{first_is_in, later_is_in}
 use Rattle.nichols_braid.proofs.Letters.{in_up_to, from_up_to}
-
-first_word : (w : List ℕ) (ws : List (List ℕ)) → IsIn w (w ∷ ws)
-unfolding IsIn
-first_word w ws = inl refl
-
-later_word : (w v : List ℕ) (ws : List (List ℕ)) → IsIn w ws → IsIn w (v ∷ ws)
-unfolding IsIn
-later_word w v ws h = inr h
 
 pub in_words : (n m : ℕ) (w : List ℕ) → length w ≡ m → IsWordOver n w → IsIn w (words n m)
 unfolding words IsIn
@@ -103,4 +96,4 @@ words_from_list P f ws e h = at f (λ w i. h w (subst (IsIn w) e i))
   where
     at : (f : Combination) → ((w : List ℕ) → IsIn w (words_of f) → P w) → AllByRecursion (λ t. P t.word) f
     at [] h = tt
-    at (t ∷ f) h = (h t.word (first_word t.word (words_of f)), at f (λ w i. h w (later_word w t.word (words_of f) i)))
+    at (t ∷ f) h = (h t.word (first_is_in t.word (words_of f)), at f (λ w i. h w (later_is_in w t.word (words_of f) i)))

@@ -1,6 +1,5 @@
 -- The symmetrizer factors through the skew derivations.
 use Rattle.std.proofs.Common.{◌≡◌, ℕ, suc, Bool, true, false, cond, List, [], ◌∷◌, ◌++◌, map, length, refl, sym, ◌∙◌, ap, ap₂, nat_eq, append_assoc}
-use Rattle.std.specs.Prelude.{if◌then◌else◌}
 use Rattle.std.specs.List.{flat_map, AllByRecursion}
 use Rattle.std.proofs.lemmas.List.{append-nil, map-append}
 use Rattle.std.proofs.lemmas.Bool.Decides.{Decides-eqb}
@@ -14,14 +13,12 @@ use Rattle.nichols_braid.specs.Symmetrizer.{lifts, symmetrized}
 use Rattle.nichols_braid.specs.Derivation.{scalars_met, derived_word, derived}
 use Rattle.nichols_braid.specs.RightProduct.{times_letter}
 use Rattle.nichols_braid.proofs.Maps.{extended_same, extended_same_on, extended-sum, extended-extended, times_letter_is_extended, times_letter-append}
+use Rattle.nichols_braid.proofs.Rule.{here, map-here}
 use Rattle.nichols_lift.proofs.Reduced.{term}
 use Rattle.nichols_lift.proofs.Summands.{Summand, summands, lifted, lifts_are_summands}
 use Rattle.nichols_lift.proofs.Totals.{total, total_same, total-plus, total_zero, one_letter, value_at-flat_map}
 
 -- ---- the derivation by a letter takes the summands of this letter
-
-here : Bool → Term → Combination
-here c t = if c then t ∷ [] else []
 
 rests_of : ℕ → List Summand → Combination
 rests_of a [] = []
@@ -29,11 +26,6 @@ rests_of a (s ∷ ss) = here (nat_eq a s.letter) s.rest ++ rests_of a ss
 
 fronted : List ℕ → Term → Term
 fronted front t = record { word = front ++ t.word; coefficient = t.coefficient }
-
-map-here : (f : Term → Term) (c : Bool) (t : Term) → map f (here c t) ≡ here c (f t)
-unfolding here
-map-here f true t = refl
-map-here f false t = refl
 
 here_same : (c : Bool) (s t : Term) → (c ≡ true → s ≡ t) → here c s ≡ here c t
 unfolding here

@@ -1,7 +1,7 @@
 -- Both readings of what is zero give the same algebra.
-use Rattle.std.proofs.Common.{◌≡◌, ℕ, zero, suc, Bool, not, cond, ◌||◌, List, [], ◌∷◌, ◌++◌, map, length, refl, sym, ◌∙◌, ap, ap₂, subst, inl, inr, Some}
+use Rattle.std.proofs.Common.{◌≡◌, ℕ, zero, suc, not, List, [], ◌∷◌, ◌++◌, map, length, refl, sym, ◌∙◌, ap, subst, inl, inr}
 use Rattle.std.specs.Prelude.{unwrap_or}
-use Rattle.std.specs.List.{flat_map, filter, find, list_any}
+use Rattle.std.specs.List.{flat_map, filter, find}
 use Rattle.nichols_tensor.specs.Members.{IsIn}
 use Rattle.nichols_tensor.specs.Combination.{Combination, single, minus, without_zeros}
 use Rattle.nichols_tensor.specs.Words.{up_to, IsWordOver, IsOver, HasDegree, words, words_before, combinations}
@@ -13,33 +13,12 @@ use Rattle.nichols_braid.specs.Least.{are_congruent, is_least, basis, normal_for
 use Rattle.nichols_braid.specs.IdealTest.{IsIdealTest}
 use Rattle.nichols_braid.specs.RightProduct.{times_letter}
 use Rattle.nichols_braid.proofs.Degrees.{minus_degree, minus_over}
+use Rattle.nichols_braid.proofs.Lists.{same_map, same_any, same_filter, same_find}
 use Rattle.nichols_braid.proofs.Killed.{is_in_kernel_sound, is_in_kernel_complete, is_in_kernel_is_linear}
 use Rattle.nichols_braid.proofs.Prefixes.{from_basis, from_candidates, is_killed_is_ideal}
 use Rattle.nichols_braid.proofs.WordLists.{from_words, from_before, words_from_list}
 use Rattle.nichols_lift.specs.Reading.{IsReading, HasOneReading}
 use Rattle.nichols_lift.proofs.Kernel.{tests_agree, in_kernel-times_letter}
-
--- ---- tests that agree on a list
-
-same_any : {X : Type 0} (s t : X → Bool) (xs : List X) → ((x : X) → IsIn x xs → s x ≡ t x) → list_any s xs ≡ list_any t xs
-unfolding IsIn
-same_any s t [] h = refl
-same_any s t (x ∷ xs) h = ap₂ (λ a b. a || b) (h x (inl refl)) (same_any s t xs (λ y i. h y (inr i)))
-
-same_filter : {X : Type 0} (s t : X → Bool) (xs : List X) → ((x : X) → IsIn x xs → s x ≡ t x) → filter s xs ≡ filter t xs
-unfolding IsIn
-same_filter s t [] h = refl
-same_filter s t (x ∷ xs) h = ap₂ (λ b r. cond b (x ∷ r) r) (h x (inl refl)) (same_filter s t xs (λ y i. h y (inr i)))
-
-same_find : {X : Type 0} (s t : X → Bool) (xs : List X) → ((x : X) → IsIn x xs → s x ≡ t x) → find s xs ≡ find t xs
-unfolding IsIn
-same_find s t [] h = refl
-same_find s t (x ∷ xs) h = ap₂ (λ b r. cond b (Some x) r) (h x (inl refl)) (same_find s t xs (λ y i. h y (inr i)))
-
-same_map : {X Y : Type 0} (f g : X → Y) (xs : List X) → ((x : X) → IsIn x xs → f x ≡ g x) → map f xs ≡ map g xs
-unfolding IsIn
-same_map f g [] h = refl
-same_map f g (x ∷ xs) h = ap₂ (λ y r. y ∷ r) (h x (inl refl)) (same_map f g xs (λ y i. h y (inr i)))
 
 -- ---- the readings
 
