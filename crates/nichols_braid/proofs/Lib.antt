@@ -20,3 +20,9 @@ pub mod Congruences
 pub mod LeastWords
 pub mod Reduction
 pub mod Independence
+pub mod NormalForms
+pub mod Candidates
+pub mod Agreement
+pub mod Spanning
+pub mod Rows
+pub mod LeastLaws

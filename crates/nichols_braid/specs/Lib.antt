@@ -15,3 +15,5 @@ pub mod Rearrangement
 pub mod IdealTest
 pub mod Laws
 pub mod LeastLaws
+pub mod End
+pub mod Rows

@@ -9,3 +9,4 @@ pub mod Building
 pub mod Letters
 pub mod Rising
 pub mod AllWords
+pub mod Tests

@@ -1,0 +1,3 @@
+pub mod Put
+pub mod Progress
+pub mod ReportEnds
