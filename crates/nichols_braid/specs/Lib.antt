@@ -12,8 +12,8 @@ pub mod RightProduct
 pub mod LinearTest
 pub mod LinearMap
 pub mod Rearrangement
-pub mod End
 pub mod IdealTest
 pub mod Laws
 pub mod LeastLaws
+pub mod End
 pub mod Rows

@@ -1,0 +1,7 @@
+//! Skew derivations of combinations.
+#![tactic(auto)]
+
+mod derivation;
+mod passing;
+
+pub use derivation::derive;
