@@ -2,3 +2,4 @@ pub mod Put
 pub mod Progress
 pub mod ReportEnds
 pub mod RunEnds
+pub mod Digits

@@ -1,5 +1,5 @@
 -- The ends of a run, by its document and by what was written.
-use Rattle.std.proofs.Common.{◌≡◌, ◌≢◌, ℕ, ◌+◌, ◌<◌, ◌≤◌, Bool, true, false, cond, List, [], ◌∷◌, ◌++◌, length, refl, sym, ◌∙◌, ap, arith, subst, Some, None, Ok, Err, ◌⊎◌, inl, inr, nat_lt, append-nil}
+use Rattle.std.proofs.Common.{◌≡◌, ◌≢◌, ℕ, ◌+◌, ◌<◌, ◌≤◌, Bool, true, false, cond, List, [], ◌∷◌, ◌++◌, length, refl, sym, ◌∙◌, ap, arith, subst, Some, None, Ok, Err, ◌⊎◌, inl, inr, nat_lt, nat_le, append-nil}
 use Rattle.std.specs.Prelude.{Option, Result, codes, ◌&&◌}
 use Rattle.std.specs.Str.{bytes_eq}
 use Rattle.std.proofs.lemmas.Bool.Decides.{nat_tests}
@@ -13,7 +13,7 @@ use Rattle.nichols_input.specs.Document.{braid_in}
 use Rattle.nichols_input.specs.declared.faults.InputFault.{InputFault}
 use Rattle.nichols_input.specs.declared.faults.InputFault.TheVariants.{NotDistributive, Unbuilt, Memory}
 use Rattle.nichols_text.specs.Lines.{usage_text, read_fault_text, not_built_text, not_distributive_text, memory_text}
-use Rattle.nichols_top.specs.Report.{Report, line_report, algebra_due, pieces_due, braid_due, document_due, document_limit, due, due_under, degree_limit, small_number}
+use Rattle.nichols_top.specs.Report.{Report, line_report, algebra_due, pieces_due, braid_due, document_due, document_limit, due, due_under, degree_limit, short_number, within_degrees}
 use Rattle.nichols_top.specs.Ends.{text_of, last_degree, memory_due, EndsAs, whole, read_fault, write_fault, memory, IsOwed, all_pieces, fault_line, some_pieces}
 use Rattle.nichols_top.specs.Output.{PutsLine, put, cut, Breaks, fault, no_memory}
 use Rattle.nichols_top.proofs.Put.{HasPut, put_none, put_next, ends_whole, ends_line, ends_broken}
@@ -160,24 +160,27 @@ braid_ends limit r braid before now sr kr result e h = subst (λ s. EndsAs (brai
 
 -- ---- the degree limits that are accepted
 
-limit_small : (text : List ℕ) (limit : ℕ) → small_number text ≡ Some limit → limit ≤ 2
-limit_small text limit e = at (bytes_eq text (codes "0")) (bytes_eq text (codes "1")) (bytes_eq text (codes "2")) e
+within_small : (o : Option ℕ) (limit : ℕ) → within_degrees o ≡ Some limit → limit ≤ 60
+within_small None limit e = cc
+within_small (Some n) limit e = at (nat_le n 60) refl e
   where
-    at : (a b c : Bool) → cond a (Some 0) (cond b (Some 1) (cond c (Some 2) None)) ≡ Some limit → limit ≤ 2
-    at true b c e = let same : 0 ≡ limit = cc in omega arith
-    at false true c e = let same : 1 ≡ limit = cc in omega arith
-    at false false true e = let same : 2 ≡ limit = cc in omega arith
-    at false false false e = cc
+    at : (b : Bool) → nat_le n 60 ≡ b → cond b (Some n) None ≡ Some limit → limit ≤ 60
+    at true t e = let same : n ≡ limit = cc in subst (λ k. k ≤ 60) same (grind (arith, nat_tests))
+    at false t e = cc
 
-pub accepted_limit : (words : List (List ℕ)) (limit : ℕ) → degree_limit words ≡ Some limit → limit ≤ 2
+pub accepted_limit : (words : List (List ℕ)) (limit : ℕ) → degree_limit words ≡ Some limit → limit ≤ 60
 unfolding degree_limit
 accepted_limit [] limit e = cc
-accepted_limit (a ∷ []) limit e = cc
+accepted_limit (a ∷ []) limit e = at (bytes_eq a (codes "algebra")) e
+  where
+    at : (t : Bool) → cond t (Some 12) None ≡ Some limit → limit ≤ 60
+    at true e = let same : 12 ≡ limit = cc in omega arith
+    at false e = cc
 accepted_limit (a ∷ b ∷ []) limit e = cc
 accepted_limit (a ∷ b ∷ c ∷ []) limit e = at (bytes_eq a (codes "algebra") && bytes_eq b (codes "--degree")) e
   where
-    at : (t : Bool) → cond t (small_number c) None ≡ Some limit → limit ≤ 2
-    at true e = limit_small c limit e
+    at : (t : Bool) → cond t (within_degrees (short_number c)) None ≡ Some limit → limit ≤ 60
+    at true e = within_small (short_number c) limit e
     at false e = cc
 accepted_limit (a ∷ b ∷ c ∷ d ∷ ws) limit e = cc
 

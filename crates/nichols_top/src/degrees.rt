@@ -14,9 +14,9 @@ pub(crate) struct Degree {
     pub(crate) piece: Vec<u8>,
 }
 
-/// Degree m, at most 2.
+/// Degree m, at most 60.
 pub(crate) fn make_degree(alloc: Global, braid: &Braid, m: u32) -> Result<Degree, AllocError>
-    requires { m ≤ 2 }
+    requires { m ≤ 60 }
     ensures { IfOk result (λ d. IsDegree braid.now m d.dimension d.piece.items) }
 {
     Err(AllocError)

@@ -19,7 +19,7 @@ const ROWS_LIMIT: u32 = 1024;
 
 /// Writes the report of a braid's algebra up to a degree limit: the header, each degree once it is done, and the end.
 pub(crate) fn put_report<K: Sink>(alloc: Global, braid: &Braid, limit: u32, sink: &mut K) -> u8
-    requires { limit ≤ 2 }
+    requires { limit ≤ 60 }
     ensures ends { EndsAs (algebra_due braid.now limit) (K.taken sink.old) (K.taken sink.new) ⊥ (Rose (K.faults sink.old) (K.faults sink.new)) result }
     ensures count { K.faults sink.old ≤ K.faults sink.new }
 {

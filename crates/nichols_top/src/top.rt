@@ -57,7 +57,7 @@ pub fn run<R: Threads + Sync, S: Source, K: Sink>(
 
 /// Writes the report of a document, or the line of its refusal, and answers the status.
 fn answer<K: Sink>(alloc: Global, limit: u32, document: &[u8], sink: &mut K) -> u8
-    requires { limit ≤ 2 }
+    requires { limit ≤ 60 }
     ensures { EndsAs (braid_due limit (braid_in document.now)) (K.taken sink.old) (K.taken sink.new) ⊥ (Rose (K.faults sink.old) (K.faults sink.new)) result }
 {
     match read_braid(alloc, document) {
