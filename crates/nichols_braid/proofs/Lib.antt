@@ -12,3 +12,10 @@ pub mod BraidLaws
 pub mod Rearranged
 pub mod Counts
 pub mod Permutations
+pub mod Congruences
+pub mod LeastWords
+pub mod Reduction
+pub mod Independence
+pub mod NormalForms
+pub mod Candidates
+pub mod Agreement

@@ -13,3 +13,4 @@ pub mod LinearTest
 pub mod LinearMap
 pub mod Laws
 pub mod Rearrangement
+pub mod LeastLaws

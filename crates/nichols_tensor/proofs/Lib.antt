@@ -6,3 +6,7 @@ pub mod Order
 pub mod Over
 pub mod Ordered
 pub mod Building
+pub mod Letters
+pub mod Rising
+pub mod AllWords
+pub mod Tests
