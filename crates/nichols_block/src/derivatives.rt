@@ -1,5 +1,10 @@
 //! Derivatives of candidates, in normal form over the degree below.
 
+ghost use Rattle.std.specs.Prelude.{◌≡◌, ◌<◌, ◌++◌, ◌∷◌, IfOk, List, [], length};
+ghost use Rattle.nichols_field.specs.Field.{IsElement};
+ghost use Rattle.nichols_tensor.specs.Combination.{AllElements, HasSameValues, scaled};
+ghost use Rattle.nichols_block.specs.Forms.{IsTable, form_in};
+
 use crate::candidates::followed;
 use crate::rule::{DegreeRule, Derivatives};
 use nichols_braid::Braid;
@@ -15,9 +20,19 @@ fn with_form(
     by: u32,
     table: &[Relation],
     candidate: Word,
-) -> Result<Comb, AllocError> {
+) -> Result<Comb, AllocError>
+    requires factor { IsElement field by }
+    requires total { AllElements field total.now }
+    requires table { IsTable field table.now }
+    ensures value { IfOk result (λ r. HasSameValues field r (total.now ++ scaled field by (form_in table.now candidate))) }
+    ensures elements { IfOk result (AllElements field) }
+{
+    let _modulus = field.modulus();
     match table.binary_search_by_key(&candidate, |relation| relation.candidate) {
-        Ok(k) => total.add_scaled(alloc, field, by, &table[k].form),
+        Ok(k) => {
+            let relation = &table[k];
+            total.add_scaled(alloc, field, by, &relation.form)
+        }
         Err(_) => {
             let itself = Comb::single(alloc, field, candidate, 1)?;
             total.add_scaled(alloc, field, by, &itself)
