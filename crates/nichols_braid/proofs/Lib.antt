@@ -19,3 +19,6 @@ pub mod Independence
 pub mod NormalForms
 pub mod Candidates
 pub mod Agreement
+pub mod Spanning
+pub mod Rows
+pub mod LeastLaws

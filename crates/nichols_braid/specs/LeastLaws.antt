@@ -1,5 +1,5 @@
 -- What the laws of least words, bases and normal forms say, for every linear test of which combinations are zero in the algebra.
-use Rattle.std.specs.Prelude.{◌≡◌, ℕ, Bool, true, List, [], ◌++◌, length}
+use Rattle.std.specs.Prelude.{◌≡◌, ℕ, suc, Bool, true, List, [], ◌++◌, map, length, filter}
 use Rattle.std.specs.List.{AllByRecursion}
 use Rattle.std.specs.declared.cmp.Ordering.TheVariants.{Less}
 use Rattle.nichols_field.specs.Field.{IsField}
@@ -7,9 +7,10 @@ use Rattle.nichols_tensor.specs.Members.{IsIn}
 use Rattle.nichols_tensor.specs.Combination.{Combination, HasSameValues, IsZero, AllElements, AllAmong, single, scaled, minus}
 use Rattle.nichols_tensor.specs.Words.{IsWordOver, IsOver, HasDegree}
 use Rattle.nichols_tensor.specs.WordOrder.{word_cmp, IsRising, IsOrdered}
-use Rattle.nichols_braid.specs.Braid.{BraidValue}
+use Rattle.nichols_braid.specs.Braid.{BraidValue, IsLetter}
 use Rattle.nichols_braid.specs.Kernel.{Vanishing}
 use Rattle.nichols_braid.specs.Least.{is_least, basis, normal_form, candidates, relations}
+use Rattle.nichols_braid.specs.RightProduct.{times_letter}
 use Rattle.nichols_braid.specs.LinearTest.{IsLinearTest}
 
 -- each word of f has the length of w, is a word over the letters and stands before w
@@ -115,3 +116,19 @@ pub record AreReadAlike (vanishes other : Vanishing) (braid : BraidValue) : Type
 -- tests that agree have the same least words, bases, normal forms, candidates and relations
 abbrev pub AgreeingTestsReadAlike : Type 0
 AgreeingTestsReadAlike = (vanishes other : Vanishing) (braid : BraidValue) → AgreeOnDegrees vanishes other braid → AreReadAlike vanishes other braid
+
+-- ---- candidates
+
+-- what the test takes for zero stays zero with each letter behind
+abbrev pub IsRightIdeal : Vanishing → BraidValue → Type 0
+IsRightIdeal vanishes braid = (m : ℕ) (f : Combination) (b : ℕ) → IsLetter braid b → vanishes braid m f ≡ true → vanishes braid (suc m) (times_letter f b) ≡ true
+
+-- each least word is a candidate: the basis has the least words among the candidates
+abbrev pub BasisIsAmongCandidates : Type 0
+BasisIsAmongCandidates =
+    (vanishes : Vanishing) (braid : BraidValue) → IsField braid.field → ((d : ℕ) → IsLinearTest braid.field (vanishes braid d)) → IsRightIdeal vanishes braid →
+    (m : ℕ) → basis vanishes braid m ≡ filter (is_least vanishes braid) (candidates vanishes braid m)
+
+-- the candidates of the relations of a degree rise
+abbrev pub RelationsRise : Type 0
+RelationsRise = (vanishes : Vanishing) (braid : BraidValue) (m : ℕ) → IsRising (map (λ r. r.candidate) (relations vanishes braid m))

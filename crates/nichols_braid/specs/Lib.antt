@@ -14,3 +14,4 @@ pub mod LinearMap
 pub mod Laws
 pub mod Rearrangement
 pub mod LeastLaws
+pub mod Rows

@@ -1,6 +1,7 @@
 //! Laws of the symmetrizer and of the skew derivations, for every braid and every length.
 
 ghost use Rattle.nichols_braid.specs.Laws.{PermutationsHoldEachOnce, SymmetrizerIsLinear, DerivationsAreLinear, DerivationRule, KilledIsRightIdeal, KilledIsDecided, KernelIsDecided, KilledIsLinear, KernelIsLinear};
+ghost use Rattle.nichols_braid.specs.LeastLaws.{LeastWordsAreTested, BasisHasLeastWords, BasisIsIndependent, NormalFormsAreUnique, NormalFormsTellClasses, ZeroHasNoTerms, NormalFormIsLinear, LeastWordsAreNormal, AgreeingTestsReadAlike, BasisIsAmongCandidates, RelationsRise};
 
 /// The quantum symmetrizer is linear.
 #[tactic(auto, using(crate::proofs::BraidLaws::symmetrizer_is_linear))]
@@ -51,4 +52,68 @@ pub fn kernel_is_linear()
 /// The list of permutations of m places holds each rearrangement of 1 to m exactly once.
 pub fn permutations_hold_each_once()
     ensures { PermutationsHoldEachOnce }
+{}
+
+/// The test of least words says yes exactly of the words that are congruent to no combination of earlier words of their length.
+#[tactic(auto, using(crate::proofs::LeastLaws::least_words_are_tested))]
+pub fn least_words_are_tested()
+    ensures { LeastWordsAreTested }
+{}
+
+/// The basis of degree m has the least words of m letters, each once, rising.
+pub fn basis_has_least_words()
+    ensures { BasisHasLeastWords }
+{}
+
+/// A combination of least words that is zero in the algebra is zero.
+#[tactic(auto, using(crate::proofs::LeastLaws::least_words_are_independent))]
+pub fn least_words_are_independent()
+    ensures { BasisIsIndependent }
+{}
+
+/// Each combination of words of m letters is congruent to exactly one combination of least words in order.
+pub fn normal_forms_are_unique()
+    ensures { NormalFormsAreUnique }
+{}
+
+/// Two combinations are one in the algebra exactly where their normal forms are one.
+#[tactic(auto, using(crate::proofs::LeastLaws::normal_forms_tell_classes))]
+pub fn normal_forms_tell_classes()
+    ensures { NormalFormsTellClasses }
+{}
+
+/// A combination is zero in the algebra exactly where its normal form has no terms.
+#[tactic(auto, using(crate::proofs::LeastLaws::zero_has_no_terms))]
+pub fn zero_has_no_terms()
+    ensures { ZeroHasNoTerms }
+{}
+
+/// The normal form keeps the values of sums and multiples.
+#[tactic(auto, using(crate::proofs::LeastLaws::normal_form_is_linear))]
+pub fn normal_form_is_linear()
+    ensures { NormalFormIsLinear }
+{}
+
+/// A least word is its own normal form.
+#[tactic(auto, using(crate::proofs::LeastLaws::least_words_are_normal))]
+pub fn least_words_are_normal()
+    ensures { LeastWordsAreNormal }
+{}
+
+/// Tests that agree on each degree have the same least words, bases, normal forms, candidates and relations.
+#[tactic(auto, using(crate::proofs::LeastLaws::agreeing_tests_read_alike))]
+pub fn agreeing_tests_read_alike()
+    ensures { AgreeingTestsReadAlike }
+{}
+
+/// The basis has the least words among the candidates, where what is zero in the algebra is a right ideal.
+#[tactic(auto, using(crate::proofs::LeastLaws::basis_is_among_candidates))]
+pub fn basis_is_among_candidates()
+    ensures { BasisIsAmongCandidates }
+{}
+
+/// The candidates of the relations of a degree rise.
+#[tactic(auto, using(crate::proofs::LeastLaws::relations_rise))]
+pub fn relations_rise()
+    ensures { RelationsRise }
 {}

@@ -1,11 +1,11 @@
 -- Lists of words that rise: when they do, where their words stand, and that the words alone determine such a list.
 use Rattle.std.proofs.Common.{◌≡◌, ℕ, zero, suc, ◌<◌, Bool, true, false, cond, List, [], ◌∷◌, ◌++◌, map, length, refl, sym, ◌∙◌, ap, ap₂, subst, arith, ◌⊎◌, inl, inr, append_assoc}
-use Rattle.std.specs.Prelude.{slice_index_or}
 use Rattle.std.specs.List.{flat_map, filter, AllByRecursion}
 use Rattle.std.specs.Ordering.{is_lt}
 use Rattle.std.specs.declared.cmp.Ordering.{Ordering}
 use Rattle.std.specs.declared.cmp.Ordering.TheVariants.{Less, Equal, Greater}
 use Rattle.nichols_tensor.specs.Members.{IsIn}
+use Rattle.nichols_tensor.specs.Positions.{word_at}
 use Rattle.nichols_tensor.specs.WordOrder.{word_cmp, IsBelowFirst, IsRising}
 use Rattle.nichols_tensor.proofs.Entries.{in_left, in_right, in_either}
 use Rattle.nichols_tensor.proofs.Over.{all_at}
@@ -124,10 +124,6 @@ filter_before (v ∷ vs) w us r =
     ∙ ap (λ x. v ∷ x) (filter_before vs w us r.1)
 
 -- ---- positions
-
--- the word at a position, from 0
-abbrev pub word_at : List (List ℕ) → ℕ → List ℕ
-word_at ws i = slice_index_or ws i []
 
 pub word_at_is_in : (ws : List (List ℕ)) (i : ℕ) → i < length ws → IsIn (word_at ws i) ws
 unfolding IsIn

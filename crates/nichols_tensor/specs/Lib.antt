@@ -3,3 +3,4 @@ pub mod Combination
 pub mod WordOrder
 pub mod Words
 pub mod Laws
+pub mod Positions

@@ -1,0 +1,151 @@
+-- Lists of words that span by words that aren't behind: all words of a degree, and the candidates where the test is a right ideal.
+-- The least words are entries of each such list.
+use Rattle.std.proofs.Common.{◌≡◌, ℕ, zero, suc, ◌+◌, Bool, true, false, List, [], ◌∷◌, ◌++◌, map, length, refl, sym, ◌∙◌, ap, subst, arith, ◌⊎◌, inl, inr, length-append}
+use Rattle.std.specs.List.{filter, AllByRecursion}
+use Rattle.std.specs.declared.cmp.Ordering.TheVariants.{Less}
+use Rattle.nichols_field.specs.Field.{FieldValue, IsField, negative}
+use Rattle.nichols_tensor.specs.Members.{IsIn}
+use Rattle.nichols_tensor.specs.Combination.{Term, Combination, AllElements, AllAmong, single, scaled, minus}
+use Rattle.nichols_tensor.specs.Words.{IsWordOver, words, words_before}
+use Rattle.nichols_tensor.specs.WordOrder.{word_cmp, IsRising}
+use Rattle.nichols_tensor.proofs.Entries.{in_filter, from_filter}
+use Rattle.nichols_tensor.proofs.Ordered.{is_in_or_not}
+use Rattle.nichols_tensor.proofs.Over.{word_over_front, word_over_back}
+use Rattle.nichols_tensor.proofs.Rising.{rising-filter, rising_unique}
+use Rattle.nichols_tensor.proofs.AllWords.{in_words, from_words, words_rise, in_words_before, push_less}
+use Rattle.nichols_braid.specs.Braid.{BraidValue, IsLetter}
+use Rattle.nichols_braid.specs.Kernel.{Vanishing}
+use Rattle.nichols_braid.specs.Least.{is_least, basis, candidates}
+use Rattle.nichols_braid.specs.RightProduct.{times_letter}
+use Rattle.nichols_braid.specs.LinearTest.{IsLinearTest}
+use Rattle.nichols_braid.specs.LeastLaws.{IsRightIdeal}
+use Rattle.nichols_braid.proofs.Maps.{times_letter-append, times_letter-scaled}
+use Rattle.nichols_braid.proofs.Congruences.{AreCongruent, IsReduced, reduced_of_each, reduced_weaker, reduced_itself}
+use Rattle.nichols_braid.proofs.LeastWords.{least_refutes_at}
+use Rattle.nichols_braid.proofs.Reduction.{IsUpTo, in_basis, from_basis, basis_rises, reduced_word, reduced_before_from}
+use Rattle.nichols_braid.proofs.Candidates.{in_candidates, from_candidates, candidates_rise, candidates_first, least_of}
+
+-- a list of words of m letters that rises, such that each word of m letters is congruent to a combination of words of the list that
+-- aren't behind it
+pub record IsSpanning (vanishes : Vanishing) (braid : BraidValue) (m : ℕ) (ws : List (List ℕ)) : Type 0 where
+  pub rising : IsRising ws
+  pub degree : (w : List ℕ) → IsIn w ws → length w ≡ m
+  pub over : (w : List ℕ) → IsIn w ws → IsWordOver braid.letters w
+  pub spans : (v : List ℕ) → length v ≡ m → IsWordOver braid.letters v → IsReduced braid.field (vanishes braid m) (λ u. IsIn u ws × IsUpTo v u) (single v)
+
+-- ---- such lists
+
+pub words_span : (vanishes : Vanishing) (braid : BraidValue) → IsField braid.field → (m : ℕ) → IsLinearTest braid.field (vanishes braid m) → IsSpanning vanishes braid m (words braid.letters m)
+words_span vanishes braid is m l = record {
+  rising = words_rise braid.letters m;
+  degree = λ w i. (from_words braid.letters m w i).0;
+  over = λ w i. (from_words braid.letters m w i).1;
+  spans = λ v e o. reduced_itself braid.field is (vanishes braid m) l (λ u. IsIn u (words braid.letters m) × IsUpTo v u) v (in_words braid.letters m v e o, inl refl);
+}
+
+pub basis_spans : (vanishes : Vanishing) (braid : BraidValue) → IsField braid.field → (m : ℕ) → IsLinearTest braid.field (vanishes braid m) → IsSpanning vanishes braid m (basis vanishes braid m)
+basis_spans vanishes braid is m l = record {
+  rising = basis_rises vanishes braid m;
+  degree = λ w i. (from_basis vanishes braid m w i).0;
+  over = λ w i. (from_basis vanishes braid m w i).1;
+  spans = λ v e o. reduced_word vanishes braid is m l v (in_words braid.letters m v e o);
+}
+
+-- a word that isn't empty is a word with a letter behind
+pub split_last : (m : ℕ) (v : List ℕ) → length v ≡ suc m → (u : List ℕ) × (b : ℕ) × (v ≡ u ++ b ∷ [])
+split_last m [] e = absurd (omega arith)
+split_last m (a ∷ []) e = ([], a, refl)
+split_last zero (a ∷ c ∷ v) e = absurd (omega arith)
+split_last (suc m) (a ∷ c ∷ v) e = let (u, b, d) = split_last m (c ∷ v) (omega arith) in (a ∷ u, b, ap (λ x. a ∷ x) d)
+
+times_letter-minus : (k : FieldValue) (f g : Combination) (b : ℕ) → times_letter (minus k f g) b ≡ minus k (times_letter f b) (times_letter g b)
+times_letter-minus k f g b = times_letter-append f (scaled k (negative k 1) g) b ∙ ap (λ h. times_letter f b ++ h) (times_letter-scaled k (negative k 1) g b)
+
+with_letter : (vanishes : Vanishing) (braid : BraidValue) → IsRightIdeal vanishes braid → (m : ℕ) (u : List ℕ) (b : ℕ) → length u ≡ m → IsLetter braid b →
+    IsReduced braid.field (vanishes braid m) (λ v. IsIn v (basis vanishes braid m) × IsUpTo u v) (single u) →
+    IsReduced braid.field (vanishes braid (suc m)) (λ v. IsIn v (candidates vanishes braid (suc m)) × IsUpTo (u ++ b ∷ []) v) (single (u ++ b ∷ []))
+with_letter vanishes braid ideal m u b e letter (g, a, c) =
+    (times_letter g b, each g a,
+    subst (λ h. vanishes braid (suc m) h ≡ true) (times_letter-minus braid.field (single u) g b) (ideal m (minus braid.field (single u) g) b letter c))
+  where
+    at : (v : List ℕ) → length v ≡ m → IsUpTo u v → IsUpTo (u ++ b ∷ []) (v ++ b ∷ [])
+    at v d (inl same) = inl (ap (λ x. x ++ b ∷ []) same)
+    at v d (inr less) = inr (push_less v u b b (d ∙ sym e) less)
+
+    each : (g : Combination) → AllByRecursion (λ t. IsIn t.word (basis vanishes braid m) × IsUpTo u t.word) g → AllByRecursion (λ t. IsIn t.word (candidates vanishes braid (suc m)) × IsUpTo (u ++ b ∷ []) t.word) (times_letter g b)
+    each [] h = tt
+    each (t ∷ g) h = ((in_candidates vanishes braid m t.word b h.0.0 letter, at t.word (from_basis vanishes braid m t.word h.0.0).0 h.0.1), each g h.1)
+
+-- the candidates span, where a combination that is zero stays so with each letter behind
+pub candidates_span : (vanishes : Vanishing) (braid : BraidValue) → IsField braid.field → ((d : ℕ) → IsLinearTest braid.field (vanishes braid d)) → IsRightIdeal vanishes braid → (m : ℕ) → IsSpanning vanishes braid m (candidates vanishes braid m)
+unfolding IsIn
+candidates_span vanishes braid is l ideal m = record {
+  rising = candidates_rise vanishes braid m;
+  degree = λ w i. (from_candidates vanishes braid m w i).0;
+  over = λ w i. (from_candidates vanishes braid m w i).1;
+  spans = spans m;
+}
+  where
+    spans : (m : ℕ) (v : List ℕ) → length v ≡ m → IsWordOver braid.letters v → IsReduced braid.field (vanishes braid m) (λ u. IsIn u (candidates vanishes braid m) × IsUpTo v u) (single v)
+    spans zero [] e o =
+        reduced_itself braid.field is (vanishes braid 0) (l 0) (λ u. IsIn u (candidates vanishes braid 0) × IsUpTo [] u) [] (subst (IsIn []) (sym (candidates_first vanishes braid)) (inl refl), inl refl)
+    spans zero (a ∷ v) e o = absurd (omega arith)
+    spans (suc m) v e o =
+        let (u, b, d) = split_last m v e in
+        let whole : IsWordOver braid.letters (u ++ b ∷ []) = subst (IsWordOver braid.letters) d o in
+        let last : IsWordOver braid.letters (b ∷ []) = word_over_back braid.letters u (b ∷ []) whole in
+        let size : length u + 1 ≡ suc m = sym (length-append u (b ∷ [])) ∙ ap length (sym d) ∙ e in
+        let short : length u ≡ m = omega arith in
+        subst (λ x. IsReduced braid.field (vanishes braid (suc m)) (λ y. IsIn y (candidates vanishes braid (suc m)) × IsUpTo x y) (single x)) (sym d)
+        (with_letter vanishes braid ideal m u b short last.0
+        (reduced_word vanishes braid is m (l m) u (in_words braid.letters m u short (word_over_front braid.letters u (b ∷ []) whole))))
+
+-- ---- least words are entries
+
+pub least_is_listed : (vanishes : Vanishing) (braid : BraidValue) → IsField braid.field → (m : ℕ) → IsLinearTest braid.field (vanishes braid m) → (ws : List (List ℕ)) → IsSpanning vanishes braid m ws →
+    (w : List ℕ) → length w ≡ m → IsWordOver braid.letters w → is_least vanishes braid w ≡ true → IsIn w ws
+unfolding AllAmong
+least_is_listed vanishes braid is m l ws s w e o least = elim (is_in_or_not w ws) [ inl i ↦ i | inr none ↦ absurd (other none) ]
+  where
+    other : (IsIn w ws → ⊥) → ⊥
+    other none =
+        let (g, a, c) = s.spans w e o in
+        least_refutes_at vanishes braid is m l w e least g (each g a) c
+      where
+        at : (v : List ℕ) → IsIn v ws → IsUpTo w v → IsIn v (words_before braid.letters w)
+        at v i (inl same) = absurd (none (subst (λ x. IsIn x ws) same i))
+        at v i (inr less) = in_words_before braid.letters v w (s.degree v i ∙ sym e) (s.over v i) less
+
+        each : (g : Combination) → AllByRecursion (λ t. IsIn t.word ws × IsUpTo w t.word) g → AllAmong g (words_before braid.letters w)
+        each [] h = tt
+        each (t ∷ g) h = (at t.word h.0.0 h.0.1, each g h.1)
+
+-- the basis is the list of the least words among the entries
+pub basis_among : (vanishes : Vanishing) (braid : BraidValue) → IsField braid.field → (m : ℕ) → IsLinearTest braid.field (vanishes braid m) → (ws : List (List ℕ)) → IsSpanning vanishes braid m ws →
+    basis vanishes braid m ≡ least_of vanishes braid ws
+basis_among vanishes braid is m l ws s =
+    rising_unique (basis vanishes braid m) (least_of vanishes braid ws) (basis_rises vanishes braid m) (rising-filter (is_least vanishes braid) ws s.rising)
+    (λ w i.
+      let from : (length w ≡ m) × IsWordOver braid.letters w × (is_least vanishes braid w ≡ true) = from_basis vanishes braid m w i in
+      in_filter (is_least vanishes braid) w ws (least_is_listed vanishes braid is m l ws s w from.0 from.1 from.2) from.2)
+    (λ w i. let (j, least) = from_filter (is_least vanishes braid) w ws i in in_basis vanishes braid m w (s.degree w j) (s.over w j) least)
+
+-- ---- reduction to the entries
+
+-- a combination of entries before w that a word that isn't least is congruent to
+pub reduced_to_earlier_entries : (vanishes : Vanishing) (braid : BraidValue) → IsField braid.field → (m : ℕ) → IsLinearTest braid.field (vanishes braid m) → (ws : List (List ℕ)) → IsSpanning vanishes braid m ws →
+    (w : List ℕ) → length w ≡ m → is_least vanishes braid w ≡ false → IsReduced braid.field (vanishes braid m) (λ v. IsIn v ws × (word_cmp v w ≡ Less)) (single w)
+reduced_to_earlier_entries vanishes braid is m l ws s w e least =
+    reduced_before_from vanishes braid is m l (λ v. IsIn v ws) w e least (λ v i less. s.spans v (from_words braid.letters m v i).0 (from_words braid.letters m v i).1)
+
+-- each combination of words of m letters is congruent to one of entries
+pub reduced_to_entries : (vanishes : Vanishing) (braid : BraidValue) → IsField braid.field → (m : ℕ) → IsLinearTest braid.field (vanishes braid m) → (ws : List (List ℕ)) → IsSpanning vanishes braid m ws →
+    (f : Combination) → AllAmong f (words braid.letters m) → IsReduced braid.field (vanishes braid m) (λ v. IsIn v ws) f
+unfolding AllAmong
+reduced_to_entries vanishes braid is m l ws s f among = reduced_of_each braid.field is (vanishes braid m) l (λ v. IsIn v ws) f (each f among)
+  where
+    each : (f : Combination) → AllAmong f (words braid.letters m) → AllByRecursion (λ t. IsReduced braid.field (vanishes braid m) (λ v. IsIn v ws) (single t.word)) f
+    each [] h = tt
+    each (t ∷ f) h =
+        (reduced_weaker braid.field (vanishes braid m) (λ v. IsIn v ws × IsUpTo t.word v) (λ v. IsIn v ws) (single t.word) (λ v p. p.0)
+        (s.spans t.word (from_words braid.letters m t.word h.0).0 (from_words braid.letters m t.word h.0).1), each f h.1)
