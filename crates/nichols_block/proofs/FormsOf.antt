@@ -1,17 +1,23 @@
 -- Forms in a table of relations.
-use Rattle.std.proofs.Common.{◌≡◌, ◌≢◌, ℕ, zero, suc, ◌<◌, Bool, true, false, cond, List, [], ◌∷◌, ◌++◌, length, map, get_or, refl, sym, ◌∙◌, ap, subst, arith, inl, inr}
+use Rattle.std.proofs.Common.{◌≡◌, ◌≢◌, ℕ, zero, suc, ◌<◌, Bool, true, false, cond, List, [], ◌∷◌, ◌++◌, length, map, get_or, take, nat_eq, refl, sym, ◌∙◌, ap, ap₂, subst, arith, inl, inr, ◌+◌}
 use Rattle.std.proofs.Common.{Result, Ok, Err}
+use Rattle.std.specs.Prelude.{if◌then◌else◌}
+use Rattle.std.proofs.lemmas.List.{take_more, append-nil}
+use Rattle.std.proofs.lemmas.Bool.Decides.{Decides-eqb}
 use Rattle.std.specs.List.{AllByRecursion}
 use Rattle.std.specs.List.Sorted.{IsBinarySearchResult, IsSearchInRange}
 use Rattle.std.specs.Cmp.Lexicographic.{same_text, other_text}
 use Rattle.nichols_field.specs.Field.{FieldValue, IsField, plus, times}
+use Rattle.nichols_field.proofs.FieldLaws.{plus_assoc, times_assoc, times_plus}
 use Rattle.nichols_tensor.specs.Members.{IsIn}
-use Rattle.nichols_tensor.specs.Combination.{Combination, value_at, HasSameValues, AllElements, same_letters, single, scaled}
+use Rattle.nichols_tensor.specs.Combination.{Term, Combination, value_at, HasSameValues, AllElements, same_letters, single, scaled, extended}
+use Rattle.nichols_tensor.proofs.Linear.{extended-append}
 use Rattle.nichols_tensor.specs.WordOrder.{word_cmp, IsRising}
 use Rattle.nichols_tensor.proofs.Ordered.{before_all}
 use Rattle.nichols_tensor.proofs.Values.{same_itself, value_at-append, value_at-scaled}
+use Rattle.nichols_braid.specs.Braid.{BraidValue, act, scalar}
 use Rattle.nichols_braid.specs.Least.{PlainRelation}
-use Rattle.nichols_block.specs.Forms.{candidates_of, form_in}
+use Rattle.nichols_block.specs.Forms.{candidates_of, form_in, followed_form, derived_from}
 use Rattle.nichols_block.proofs.Searching.{search_says}
 
 -- a word that is no candidate of the table has itself
@@ -68,3 +74,64 @@ form_missed table w i rising within found = sym (form_elsewhere table w (search_
   where
     empty : PlainRelation
     empty = record { candidate = []; form = [] }
+
+-- ---- a sum that goes on
+
+-- one more term of f
+pub followed_more : (k : FieldValue) → IsField k → (by factor : ℕ) (total s r : Combination) (table : List PlainRelation) (f : Combination) (i : ℕ) (t d : Term) (word : List ℕ) (c : ℕ) → i < length f → t ≡ get_or f i t → d ≡ t →
+    factor ≡ times k by d.coefficient → word ≡ d.word ++ c ∷ [] → HasSameValues k s (total ++ scaled k by (followed_form k table (take i f) c)) → HasSameValues k r (s ++ scaled k factor (form_in table word)) →
+    HasSameValues k r (total ++ scaled k by (followed_form k table (take (i + 1) f) c))
+followed_more k is by factor total s r table f i t d word c less at view factor_is word_is before here w =
+    here w ∙ value_at-append k is s (scaled k factor (form_in table word)) w
+    ∙ ap₂ (plus k) (before w ∙ value_at-append k is total (scaled k by done) w ∙ ap (plus k (value_at k total w)) (value_at-scaled k is by done w))
+    (value_at-scaled k is factor (form_in table word) w ∙ ap₂ (times k) (factor_is ∙ ap (λ (u : Term). times k by u.coefficient) view) (ap (λ v. value_at k (form_in table v) w) (word_is ∙ ap (λ (u : Term). u.word ++ c ∷ []) view)) ∙ times_assoc k by t.coefficient (value_at k own w))
+    ∙ plus_assoc k (value_at k total w) (times k by (value_at k done w)) (times k by (times k t.coefficient (value_at k own w)))
+    ∙ ap (plus k (value_at k total w)) (sym (times_plus k by (value_at k done w) (times k t.coefficient (value_at k own w))) ∙ ap (times k by) (sym longer))
+    ∙ sym (value_at-append k is total (scaled k by more) w ∙ ap (plus k (value_at k total w)) (value_at-scaled k is by more w))
+  where
+    image : List ℕ → Combination
+    image v = form_in table (v ++ c ∷ [])
+
+    own : Combination
+    own = image t.word
+
+    done : Combination
+    done = extended k image (take i f)
+
+    more : Combination
+    more = extended k image (take (i + 1) f)
+
+    longer : value_at k more w ≡ plus k (value_at k done w) (times k t.coefficient (value_at k own w))
+    longer =
+        ap (λ g. value_at k (extended k image g) w) (take_more f i t less ∙ ap (λ u. take i f ++ u ∷ []) (sym at))
+        ∙ ap (λ g. value_at k g w) (extended-append k image (take i f) (t ∷ []) ∙ ap (λ g. done ++ g) (append-nil (scaled k t.coefficient own)))
+        ∙ value_at-append k is done (scaled k t.coefficient own) w ∙ ap (plus k (value_at k done w)) (value_at-scaled k is t.coefficient own w)
+
+-- ---- the two parts of a derivative
+
+chosen_same : (a b : ℕ) (u : List ℕ) → a ≡ b → (if nat_eq a b then single u else []) ≡ single u
+chosen_same a b u e = ap (λ c. cond c (single u) []) ((Decides-eqb a b).1 e)
+
+chosen_other : (a b : ℕ) (u : List ℕ) → a ≢ b → (if nat_eq a b then single u else []) ≡ []
+chosen_other a b u other = at (nat_eq a b) refl
+  where
+    at : (c : Bool) → nat_eq a b ≡ c → cond c (single u) [] ≡ []
+    at true e = absurd (other ((Decides-eqb a b).0 e))
+    at false e = refl
+
+derived_parts : (braid : BraidValue) (k : FieldValue) (table : List PlainRelation) (u : List ℕ) (form own r : Combination) (a b by c : ℕ) → k ≡ braid.field → own ≡ (if nat_eq a b then single u else []) → by ≡ scalar braid a b → c ≡ act braid a b →
+    HasSameValues k r (own ++ scaled k by (followed_form k table form c)) → HasSameValues braid.field r (derived_from braid table u form a b)
+unfolding derived_from
+derived_parts braid k table u form own r a b by c k_is own_is by_is c_is h =
+    let f : FieldValue = braid.field in
+    subst (λ o. HasSameValues f r (o ++ scaled f (scalar braid a b) (followed_form f table form (act braid a b)))) own_is
+    (subst (λ q. HasSameValues f r (own ++ scaled f q (followed_form f table form (act braid a b)))) by_is
+    (subst (λ d. HasSameValues f r (own ++ scaled f by (followed_form f table form d))) c_is (subst (λ l. HasSameValues l r (own ++ scaled l by (followed_form l table form c))) k_is h)))
+
+pub derived_by_own : (braid : BraidValue) (k : FieldValue) (table : List PlainRelation) (u : List ℕ) (form own r : Combination) (a b by c : ℕ) → k ≡ braid.field → a ≡ b → own ≡ single u → by ≡ scalar braid a b → c ≡ act braid a b →
+    HasSameValues k r (own ++ scaled k by (followed_form k table form c)) → HasSameValues braid.field r (derived_from braid table u form a b)
+derived_by_own braid k table u form own r a b by c k_is same own_is = derived_parts braid k table u form own r a b by c k_is (own_is ∙ sym (chosen_same a b u same))
+
+pub derived_by_others : (braid : BraidValue) (k : FieldValue) (table : List PlainRelation) (u : List ℕ) (form own r : Combination) (a b by c : ℕ) → k ≡ braid.field → a ≢ b → own ≡ [] → by ≡ scalar braid a b → c ≡ act braid a b →
+    HasSameValues k r (own ++ scaled k by (followed_form k table form c)) → HasSameValues braid.field r (derived_from braid table u form a b)
+derived_by_others braid k table u form own r a b by c k_is other own_is = derived_parts braid k table u form own r a b by c k_is (own_is ∙ sym (chosen_other a b u other))

@@ -1,2 +1,4 @@
 pub mod Searching
 pub mod FormsOf
+pub mod Derived
+pub mod RuleOf

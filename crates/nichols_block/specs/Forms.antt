@@ -1,5 +1,5 @@
 -- Forms of candidates, read from a table of relations.
-use Rattle.std.specs.Prelude.{ℕ, List, [], ◌∷◌, ◌++◌, map, if◌then◌else◌, nat_eq}
+use Rattle.std.specs.Prelude.{ℕ, ◌<◌, length, List, [], ◌∷◌, ◌++◌, map, if◌then◌else◌, nat_eq}
 use Rattle.std.specs.List.{AllByRecursion}
 use Rattle.nichols_field.specs.Field.{FieldValue}
 use Rattle.nichols_tensor.specs.Combination.{Combination, AllElements, same_letters, single, scaled, extended}
@@ -29,3 +29,7 @@ followed_form field table f c = extended field (λ v. form_in table (v ++ c ∷ 
 unfoldable pub derived_from : BraidValue → List PlainRelation → List ℕ → Combination → ℕ → ℕ → Combination
 derived_from braid table u f a b =
     (if nat_eq a b then single u else []) ++ scaled braid.field (scalar braid a b) (followed_form braid.field table f (act braid a b))
+
+-- each word has fewer than 60 letters, so that a letter may be put behind
+abbrev pub AllShort : Combination → Type 0
+AllShort f = AllByRecursion (λ t. length t.word < 60) f

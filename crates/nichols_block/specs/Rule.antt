@@ -28,3 +28,7 @@ rule_of braid m = record {
   derivs = map (derived_forms braid m) (basis is_killed braid m);
   table = relations is_killed braid m;
 }
+
+-- it is the rule of degree m
+abbrev pub IsRuleOf : BraidValue → ℕ → PlainRule → Type 0
+IsRuleOf braid m rule = rule ≡ rule_of braid m

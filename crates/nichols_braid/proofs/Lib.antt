@@ -12,6 +12,9 @@ pub mod BraidLaws
 pub mod Rearranged
 pub mod Counts
 pub mod Permutations
+pub mod Lists
+pub mod WordLists
+pub mod Degrees
 pub mod Congruences
 pub mod LeastWords
 pub mod Reduction
