@@ -2,3 +2,4 @@ pub mod Searching
 pub mod FormsOf
 pub mod Derived
 pub mod RuleOf
+pub mod RowShapes
