@@ -3,3 +3,4 @@ pub mod FormsOf
 pub mod Derived
 pub mod RuleOf
 pub mod RowShapes
+pub mod ReadingOf
