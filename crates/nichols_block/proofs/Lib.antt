@@ -4,3 +4,6 @@ pub mod Derived
 pub mod RuleOf
 pub mod RowShapes
 pub mod ReadingOf
+pub mod Functionals
+pub mod Split
+pub mod NextRule

@@ -160,3 +160,10 @@ pub followed_whole : (braid : BraidValue) (m : ℕ) (us : List (List ℕ)) (k : 
     out ≡ map (derived_forms braid (suc m)) (candidates is_killed braid (suc m))
 followed_whole braid m us k out e past h =
     h ∙ ap (λ vs. map (derived_forms braid (suc m)) (with_letters braid.letters vs)) (take_all k us past ∙ e) ∙ ap (map (derived_forms braid (suc m))) (sym (candidates_next is_killed braid m))
+
+-- one more word, with each letter behind
+pub candidates_more : (n : ℕ) (us : List (List ℕ)) (k : ℕ) (u : List ℕ) (out more : List (List ℕ)) → k < length us → u ≡ get_or us k u → out ≡ with_letters n (take k us) → more ≡ out ++ map (λ b. u ++ b ∷ []) (up_to n) → more ≡ with_letters n (take (k + 1) us)
+candidates_more n us k u out more less at before pushed =
+    let own : List (List ℕ) = map (λ b. u ++ b ∷ []) (up_to n) in
+    pushed ∙ ap (λ xs. xs ++ own) before
+    ∙ sym (ap (with_letters n) (take_more us k u less ∙ ap (λ v. take k us ++ v ∷ []) (sym at)) ∙ flat_map-append (λ v. map (λ b. v ++ b ∷ []) (up_to n)) (take k us) (u ∷ []) ∙ ap (λ xs. with_letters n (take k us) ++ xs) (append-nil own))

@@ -1,6 +1,6 @@
 //! The candidates of a degree: the least words of the degree below, each with a letter behind.
 
-ghost use Rattle.std.specs.Prelude.{◌≡◌, ◌<◌, ◌≤◌, ◌++◌, ◌∷◌, IfOk, OnErr, OnOk, List, [], ℕ, length, map};
+ghost use Rattle.std.specs.Prelude.{◌≡◌, ◌<◌, ◌≤◌, ◌++◌, ◌∷◌, IfOk, OnOk, List, [], length, map};
 ghost use Rattle.std.specs.List.{AllByRecursion, flat_map};
 ghost use Rattle.nichols_tensor.specs.Words.{IsLetterOf, up_to};
 
@@ -18,6 +18,18 @@ pub(crate) fn followed(word: Word, letter: u8) -> Word
     longer
 }
 
+/// Puts a word with each letter behind, behind other words.
+fn push_followed(out: &mut Vec<Word>, letters: u8, word: Word) -> Result<(), AllocError>
+    requires letters { letters ≤ 24 }
+    requires room { length word < 60 }
+    ensures { OnOk result (out.new.items ≡ out.old.items ++ map (λ b. word ++ b ∷ []) (up_to letters)) }
+{
+    for b in 0..letters {
+        out.push(followed(word, b + 1))?;
+    }
+    Ok(())
+}
+
 /// The words of a list, each with each letter behind, in order.
 pub(crate) fn candidates(
     alloc: Global,
@@ -30,9 +42,7 @@ pub(crate) fn candidates(
 {
     let mut out = Vec::new(alloc);
     for u in basis {
-        for b in 0..letters {
-            out.push(followed(*u, b + 1))?;
-        }
+        push_followed(&mut out, letters, *u)?;
     }
     Ok(out)
 }
