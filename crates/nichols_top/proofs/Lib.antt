@@ -3,3 +3,4 @@ pub mod Progress
 pub mod ReportEnds
 pub mod RunEnds
 pub mod Digits
+pub mod Reaching

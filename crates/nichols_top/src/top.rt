@@ -61,7 +61,7 @@ fn answer<K: Sink>(alloc: Global, limit: u32, document: &[u8], sink: &mut K) -> 
     ensures { EndsAs (braid_due limit (braid_in document.now)) (K.taken sink.old) (K.taken sink.new) ⊥ (Rose (K.faults sink.old) (K.faults sink.new)) result }
 {
     match read_braid(alloc, document) {
-        Ok(braid) => put_report(alloc, &braid, limit, sink),
+        Ok(braid) => put_report(alloc, braid, limit, sink),
         Err(InputFault::NotDistributive(i, j, k, left, right)) => {
             let line = not_distributive_text(alloc, i, j, k, left, right);
             put_refusal(sink, line)

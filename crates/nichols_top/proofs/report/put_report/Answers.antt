@@ -12,27 +12,27 @@ use Rattle.nichols_top.proofs.ReportEnds.{header_broken, header_put, no_memory_a
 use Rattle.nichols_top.proofs.report.put_report.Goals as goal
 
 pub returns-in-Err-clause-ends : goal.returns-in-Err-clause-ends
-returns-in-Err-clause-ends g c = header_broken c.args.braid.now c.args.limit _ _ ⊥ _ _ c.in-Err.status (c.in-Err.ensures.piece (header_piece c.args.braid.now c.args.limit rows_limit) c.header_text.ensures)
+returns-in-Err-clause-ends g c = header_broken c.args.braid c.args.limit _ _ ⊥ _ _ c.in-Err.status (c.in-Err.ensures.piece (header_piece c.args.braid c.args.limit rows_limit) c.header_text.ensures)
 
 pub loop-m-init : goal.loop-m-init
 loop-m-init g c = record {
-  progress = subst (λ ds. Progress c.args.braid.now c.args.limit 0 ds (g.K.Sink.taken c.args.sink.now) (g.K.Sink.taken c.put_piece.new.sink)) (sym c.new-dimensions.ensures.items) (header_put c.args.braid.now c.args.limit _ _ (c.in_default.ensures.piece (header_piece c.args.braid.now c.args.limit rows_limit) c.header_text.ensures));
+  progress = subst (λ ds. Progress c.args.braid c.args.limit 0 ds (g.K.Sink.taken c.args.sink.now) (g.K.Sink.taken c.put_piece.new.sink)) (sym c.new-dimensions.ensures.items) (header_put c.args.braid c.args.limit _ _ (c.in_default.ensures.piece (header_piece c.args.braid c.args.limit rows_limit) c.header_text.ensures));
   small = subst (AllByRecursion (λ d. d < 2 ^ 32)) (sym c.new-dimensions.ensures.items) tt;
   count = c.put_piece.ensures.count;
 }
 
-pub returns-in_default-make_degree-clause-ends : goal.returns-in_default-make_degree-clause-ends
-returns-in_default-make_degree-clause-ends g c =
-    no_memory_at c.args.braid.now c.args.limit c.loop-m.m c.loop-m.dimensions.items _ _ _ ⊥ _ _ _ c.degree_before-last.result c.put_memory.result c.loop-m.invariant.progress (omega arith) c.loop-m.invariant.count c.degree_before-last.ensures c.put_memory.ensures.line
+pub returns-in_default-reach-clause-ends : goal.returns-in_default-reach-clause-ends
+returns-in_default-reach-clause-ends g c =
+    no_memory_at c.args.braid c.args.limit c.loop-m.m c.loop-m.dimensions.items _ _ _ ⊥ _ _ _ c.degree_before-last.result c.put_memory.result c.loop-m.invariant.progress (omega arith) c.loop-m.invariant.count c.degree_before-last.ensures c.put_memory.ensures.line
 
 pub returns-in-Err-put_piece-clause-ends : goal.returns-in-Err-put_piece-clause-ends
 returns-in-Err-put_piece-clause-ends g c =
-    degree_broken c.args.braid.now c.args.limit c.loop-m.m c.loop-m.dimensions.items _ _ _ ⊥ _ _ _ c.degree_before-last.result c.in-Err-put_piece.status c.loop-m.invariant.progress (omega arith) c.loop-m.invariant.count c.degree_before-last.ensures
-    (c.in-Err-put_piece.ensures.piece (degree_due c.args.braid.now c.loop-m.m) c.in-Ok.ensures.piece_is)
+    degree_broken c.args.braid c.args.limit c.loop-m.m c.loop-m.dimensions.items _ _ _ ⊥ _ _ _ c.degree_before-last.result c.in-Err-put_piece.status c.loop-m.invariant.progress (omega arith) c.loop-m.invariant.count c.degree_before-last.ensures
+    (c.in-Err-put_piece.ensures.piece (degree_due c.args.braid c.loop-m.m) c.in-Ok.ensures.piece_is)
 
 pub returns-in_default-push-clause-ends : goal.returns-in_default-push-clause-ends
 returns-in_default-push-clause-ends g c =
-    no_memory_at c.args.braid.now c.args.limit c.loop-m.m c.loop-m.dimensions.items _ _ _ ⊥ _ _ _ c.degree_before-last.result c.put_memory-in_default-push.result c.loop-m.invariant.progress (omega arith) c.loop-m.invariant.count c.degree_before-last.ensures c.put_memory-in_default-push.ensures.line
+    no_memory_at c.args.braid c.args.limit c.loop-m.m c.loop-m.dimensions.items _ _ _ ⊥ _ _ _ c.degree_before-last.result c.put_memory-in_default-push.result c.loop-m.invariant.progress (omega arith) c.loop-m.invariant.count c.degree_before-last.ensures c.put_memory-in_default-push.ensures.line
 
 pub closed-line-requires : goal.closed-line-requires
 closed-line-requires g c =
@@ -42,8 +42,8 @@ closed-line-requires g c =
 
 pub returns-then-degree-eq0-clause-ends : goal.returns-then-degree-eq0-clause-ends
 returns-then-degree-eq0-clause-ends g c =
-    ends_closed c.args.braid.now c.args.limit c.loop-m.m c.in-Ok.degree.dimension c.loop-m.dimensions.items (g.K.Sink.taken c.args.sink.now) (g.K.Sink.taken c.loop-m.sink) (g.K.Sink.taken c.put_piece-in-loop-m.new.sink) (g.K.Sink.taken c.put_end.new.sink) ⊥ (g.K.Sink.faults c.args.sink.now) (g.K.Sink.faults c.put_piece-in-loop-m.new.sink) (g.K.Sink.faults c.put_end.new.sink) c.put_end.result c.loop-m.invariant.progress (omega arith) c.in-Ok.ensures.size_is c.if-degree-eq0.true
-    (c.in_default-put_piece.ensures.piece (degree_due c.args.braid.now c.loop-m.m) c.in-Ok.ensures.piece_is)
+    ends_closed c.args.braid c.args.limit c.loop-m.m c.in-Ok.degree.dimension c.loop-m.dimensions.items (g.K.Sink.taken c.args.sink.now) (g.K.Sink.taken c.loop-m.sink) (g.K.Sink.taken c.put_piece-in-loop-m.new.sink) (g.K.Sink.taken c.put_end.new.sink) ⊥ (g.K.Sink.faults c.args.sink.now) (g.K.Sink.faults c.put_piece-in-loop-m.new.sink) (g.K.Sink.faults c.put_end.new.sink) c.put_end.result c.loop-m.invariant.progress (omega arith) c.in-Ok.ensures.size_is c.if-degree-eq0.true
+    (c.in_default-put_piece.ensures.piece (degree_due c.args.braid c.loop-m.m) c.in-Ok.ensures.piece_is)
     (let a = c.put_piece-in-loop-m.ensures.count in let b = c.loop-m.invariant.count in omega (arith, a, b))
     (let d = c.in-Ok.degree.dimension in
     let first : c.as_slice.result.now ≡ c.loop-m.dimensions.items ++ d ∷ [] = c.as_slice.ensures.value ∙ c.in-Ok-push.ensures.items in
@@ -53,14 +53,14 @@ returns-then-degree-eq0-clause-ends g c =
 
 pub loop-m-preserved : goal.loop-m-preserved
 loop-m-preserved g c = record {
-  progress = subst (λ ds. Progress c.args.braid.now c.args.limit (c.loop-m.m + 1) ds (g.K.Sink.taken c.args.sink.now) (g.K.Sink.taken c.put_piece-in-loop-m.new.sink)) (sym c.in-Ok-push.ensures.items)
-      (degree_put c.args.braid.now c.args.limit c.loop-m.m c.in-Ok.degree.dimension c.loop-m.dimensions.items _ _ _ c.loop-m.invariant.progress (omega arith) c.in-Ok.ensures.size_is (omega (arith, c.if-degree-eq0.false))
-      (c.in_default-put_piece.ensures.piece (degree_due c.args.braid.now c.loop-m.m) c.in-Ok.ensures.piece_is));
+  progress = subst (λ ds. Progress c.args.braid c.args.limit (c.loop-m.m + 1) ds (g.K.Sink.taken c.args.sink.now) (g.K.Sink.taken c.put_piece-in-loop-m.new.sink)) (sym c.in-Ok-push.ensures.items)
+      (degree_put c.args.braid c.args.limit c.loop-m.m c.in-Ok.degree.dimension c.loop-m.dimensions.items _ _ _ c.loop-m.invariant.progress (omega arith) c.in-Ok.ensures.size_is (omega (arith, c.if-degree-eq0.false))
+      (c.in_default-put_piece.ensures.piece (degree_due c.args.braid c.loop-m.m) c.in-Ok.ensures.piece_is));
   small = subst (AllByRecursion (λ d. d < 2 ^ 32)) (sym c.in-Ok-push.ensures.items) (all-push (λ d. d < 2 ^ 32) c.loop-m.dimensions.items c.in-Ok.degree.dimension c.loop-m.invariant.small c.in-Ok.ensures.small);
   count = let a = c.put_piece-in-loop-m.ensures.count in let b = c.loop-m.invariant.count in omega (arith, a, b);
 }
 
 pub returns-clause-ends : goal.returns-clause-ends
 returns-clause-ends g c =
-    ends_limited c.args.braid.now c.args.limit c.loop-m.m c.loop-m.dimensions.items _ _ _ ⊥ _ _ _ _ c.loop-m.invariant.progress (omega (arith, c.loop-m.auto.m-end)) c.loop-m.invariant.count
+    ends_limited c.args.braid c.args.limit c.loop-m.m c.loop-m.dimensions.items _ _ _ ⊥ _ _ _ _ c.loop-m.invariant.progress (omega (arith, c.loop-m.auto.m-end)) c.loop-m.invariant.count
     (subst (λ ds. PutsEnd (end_piece (DegreeLimit c.args.limit) ds) (Some c.args.limit) 3 (g.K.Sink.taken c.loop-m.sink) (g.K.Sink.taken c.put_end-2.new.sink) (Rose (g.K.Sink.faults c.loop-m.sink) (g.K.Sink.faults c.put_end-2.new.sink)) c.put_end-2.result) c.as_slice-2.ensures.value c.put_end-2.ensures.piece)

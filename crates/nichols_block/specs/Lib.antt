@@ -1,0 +1,4 @@
+pub mod Rule
+pub mod Forms
+pub mod Rows
+pub mod Reading
