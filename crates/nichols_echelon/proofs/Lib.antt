@@ -8,3 +8,4 @@ pub mod KeptRows
 pub mod OneMore
 pub mod Reducing
 pub mod Tracing
+pub mod Accumulating

@@ -4,3 +4,4 @@ pub mod Split
 pub mod Echelon
 pub mod Settled
 pub mod Next
+pub mod Accumulator

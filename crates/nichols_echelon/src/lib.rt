@@ -8,6 +8,7 @@ ghost use Rattle.nichols_echelon.specs.Split.{IsSplit};
 use nichols_field::Field;
 use std::alloc::{AllocError, Global};
 
+mod accumulator;
 mod keeping;
 pub mod laws;
 mod merging;
