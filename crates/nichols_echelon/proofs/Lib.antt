@@ -9,3 +9,4 @@ pub mod OneMore
 pub mod Reducing
 pub mod Tracing
 pub mod Accumulating
+pub mod Sweeping

@@ -5,3 +5,4 @@ pub mod Echelon
 pub mod Settled
 pub mod Next
 pub mod Accumulator
+pub mod Pivots

@@ -14,6 +14,7 @@ pub mod laws;
 mod merging;
 mod plain;
 mod rows;
+mod sweep;
 
 pub use rows::{Cell, Place, Row};
 
