@@ -10,3 +10,5 @@ pub mod Reducing
 pub mod Tracing
 pub mod Accumulating
 pub mod Sweeping
+pub mod Retracing
+pub mod PivotTable

@@ -96,7 +96,7 @@ pub passes_below : (n : ℕ) (cells : List Cell) → AllPass (λ v. nat_lt v n) 
 passes_below n cells h = all_weaker (λ c. nat_lt c.column n ≡ true) (λ c. c.column < n) (λ c b. ltb-true c.column n b) cells h
 
 -- F + -x S and x (C + S) + O are F + x C and O
-traced_sum : (k : FieldValue) → IsField k → (f s x c o : ℕ) → IsElement k x → plus k (plus k f (times k (negative k x) s)) (plus k (times k x (plus k c s)) o) ≡ plus k (plus k f (times k x c)) o
+pub traced_sum : (k : FieldValue) → IsField k → (f s x c o : ℕ) → IsElement k x → plus k (plus k f (times k (negative k x) s)) (plus k (times k x (plus k c s)) o) ≡ plus k (plus k f (times k x c)) o
 traced_sum k is f s x c o ex =
     let ns : ℕ = times k (negative k x) s in
     let xs : ℕ = times k x s in

@@ -91,3 +91,11 @@ pub record IsTraced (field : FieldValue) (kept : List Kept) (steps cells : List 
   pub elements : AllElements field cells
   pub below : AllBelow (length kept) cells
   pub filled : AllFilled kept cells
+
+-- what is left of some row, and the steps, by themselves
+pub record IsLeft (field : FieldValue) (kept : List Kept) (cells steps : List Cell) : Type 0 where
+  pub shape : IsRow cells
+  pub elements : AllElements field cells
+  pub steps_elements : AllElements field steps
+  pub steps_below : AllBelow (length kept) steps
+  pub steps_filled : AllFilled kept steps

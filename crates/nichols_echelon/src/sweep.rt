@@ -1,12 +1,12 @@
 //! The fast elimination: kept rows are found by the column that they begin at, and each sum is
 //! collected in one table.
 
-ghost use Rattle.std.specs.Prelude.{◌≡◌, ◌≢◌, ◌<◌, ◌≤◌, ◌^◌, ◌++◌, ◌∷◌, [], IfOk, ℕ, length, slice_index, reverse, true};
+ghost use Rattle.std.specs.Prelude.{◌≡◌, ◌≢◌, ◌<◌, ◌≤◌, ◌^◌, ◌++◌, ◌∷◌, [], IfOk, MatchOption, ℕ, length, slice_index, reverse, replicate, true};
 ghost use Rattle.nichols_field.specs.Field.{IsElement, plus, times, negative};
 ghost use Rattle.nichols_echelon.specs.Cells.{IsRow, AllElements, AllBelow, entry, first_coefficient};
 ghost use Rattle.nichols_echelon.specs.Combination.{AllRowsElements, AllRowsBelow};
 ghost use Rattle.nichols_echelon.specs.Split.{IsSplit};
-ghost use Rattle.nichols_echelon.specs.Echelon.{IsSound, AreKept, IsRemainder, IsTraced, AllFilled};
+ghost use Rattle.nichols_echelon.specs.Echelon.{IsSound, AreKept, IsLeft, IsRemainder, IsTraced, AllFilled};
 ghost use Rattle.nichols_echelon.specs.Settled.{IsSettled};
 ghost use Rattle.nichols_echelon.specs.Accumulator.{AreElements, IsZero};
 ghost use Rattle.nichols_echelon.specs.Pivots.{ArePivots, AllUnclaimed, rest_of};
@@ -87,4 +87,143 @@ fn swept(
         from = column + 1;
     }
     Ok(Remainder { cells, steps })
+}
+
+/// A combination of kept rows as a combination of the rows that they come from, from the last kept
+/// row on.
+fn retraced(
+    alloc: Global,
+    field: Field,
+    kept: &[Kept],
+    sums: &mut Accumulator,
+    steps: &[Cell],
+) -> Result<Vec<Cell>, AllocError>
+    requires kept { AreKept field kept.now }
+    requires count { length kept.now < 2 ^ 32 }
+    requires clear { IsZero sums.old }
+    requires width { length kept.now ≤ length sums.old }
+    requires elements { AllElements field steps.now }
+    requires below { AllBelow (length kept.now) steps.now }
+    requires filled { AllFilled kept.now steps.now }
+    ensures traced { IfOk result (λ r. IsTraced field kept.now steps.now r.items) }
+    ensures clear { IfOk result (λ r. IsZero sums.new × (length sums.new ≡ length sums.old)) }
+{
+    let _modulus = field.modulus();
+    sums.add_scaled(field, 1, steps);
+    let mut out = Vec::new(alloc);
+    let mut before = kept.len();
+    while let Some(position) = sums.previous(before) {
+        let coefficient = sums.take(position);
+        if coefficient != 0 {
+            let column = position as u32;
+            out.push(Cell {
+                column,
+                coefficient,
+            })?;
+            let back = field.neg(coefficient);
+            let one = &kept[position];
+            sums.add_scaled(field, back, one.steps.as_slice());
+        }
+        before = position;
+    }
+    out.reverse();
+    Ok(out)
+}
+
+/// The first cell, if there is one.
+fn first_cell(cells: &[Cell]) -> Option<Cell>
+    ensures { MatchOption result (cells.now ≡ []) (λ c. cells.now ≡ c ∷ rest_of cells.now) }
+{
+    match cells.split_first() {
+        Some((first, _)) => Some(*first),
+        None => None,
+    }
+}
+
+/// What is kept of a row, and its place, with the table of first columns brought up to date.
+fn settled(
+    alloc: Global,
+    field: Field,
+    kept: &[Kept],
+    pivots: &mut Vec<Option<u32>>,
+    sums: &mut Accumulator,
+    remainder: Remainder,
+) -> Result<(Kept, Place), AllocError>
+    requires kept { AreKept field kept.now }
+    requires pivots { ArePivots field kept.now pivots.old.items }
+    requires count { length kept.now < 2 ^ 32 }
+    requires clear { IsZero sums.old }
+    requires width { length kept.now ≤ length sums.old }
+    requires remainder { IsLeft field kept.now remainder.cells.items remainder.steps.items }
+    requires unclaimed { AllUnclaimed pivots.old.items remainder.cells.items }
+    requires below { AllBelow (length pivots.old.items) remainder.cells.items }
+    ensures settled { IfOk result (λ r. IsSettled field kept.now remainder.cells.items remainder.steps.items r.0 r.1) }
+    ensures pivots { IfOk result (λ r. ArePivots field (kept.now ++ r.0 ∷ []) pivots.new.items) }
+    ensures table { IfOk result (λ r. length pivots.new.items ≡ length pivots.old.items) }
+    ensures clear { IfOk result (λ r. IsZero sums.new × (length sums.new ≡ length sums.old)) }
+{
+    let _modulus = field.modulus();
+    let Remainder { cells, steps } = remainder;
+    match first_cell(cells.as_slice()) {
+        Some(first) => {
+            pivots[first.column as usize] = Some(kept.len() as u32);
+            let one = kept_of(field, first.coefficient, cells, steps);
+            Ok((one, Place::Independent))
+        }
+        None => {
+            let combination = retraced(alloc, field, kept, sums, steps.as_slice())?;
+            Ok((Kept::nothing(alloc), Place::Depends(Row::of(combination))))
+        }
+    }
+}
+
+/// A table in which no kept row begins anywhere.
+fn no_pivots(alloc: Global, width: usize) -> Result<Vec<Option<u32>>, AllocError>
+    ensures { IfOk result (λ v. v.items ≡ replicate width None) }
+{
+    let mut pivots = Vec::new(alloc);
+    pivots.resize(width, None)?;
+    Ok(pivots)
+}
+
+/// Which rows depend on the rows before them, where each column is below `width`.
+pub(crate) fn split_numbered(
+    alloc: Global,
+    field: Field,
+    rows: &[Row],
+    width: usize,
+) -> Result<Vec<Place>, AllocError>
+    requires elements { AllRowsElements field rows.now }
+    requires below { AllRowsBelow width rows.now }
+    requires count { length rows.now < 2 ^ 32 }
+    requires short { width ≤ 2 ^ 32 }
+    ensures { IfOk result (λ places. IsSplit field rows.now places.items) }
+{
+    let _modulus = field.modulus();
+    let mut sums = Accumulator::new(alloc, width)?;
+    let mut back = Accumulator::new(alloc, rows.len())?;
+    let mut pivots = no_pivots(alloc, width)?;
+    let mut kept = Vec::new(alloc);
+    let mut places = Vec::new(alloc);
+    for row in rows {
+        let remainder = swept(
+            alloc,
+            field,
+            kept.as_slice(),
+            pivots.as_slice(),
+            &mut sums,
+            row.cells(),
+        )?;
+        let (one, place) = settled(
+            alloc,
+            field,
+            kept.as_slice(),
+            &mut pivots,
+            &mut back,
+            remainder,
+        )?;
+        kept.push(one)?;
+        places.push(place)?;
+    }
+    Ok(places)
 }
