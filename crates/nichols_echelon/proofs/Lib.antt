@@ -12,3 +12,4 @@ pub mod Accumulating
 pub mod Sweeping
 pub mod Retracing
 pub mod PivotTable
+pub mod Numbers

@@ -63,7 +63,7 @@ entry_passes k is test (c ∷ cells) j h nonzero =
     ]
 
 -- no entry stands from a bound of the columns on
-entry_beyond : (k : FieldValue) → IsField k → (n : ℕ) (cells : List Cell) (j : ℕ) → AllBelow n cells → n ≤ j → entry k cells j ≡ 0
+pub entry_beyond : (k : FieldValue) → IsField k → (n : ℕ) (cells : List Cell) (j : ℕ) → AllBelow n cells → n ≤ j → entry k cells j ≡ 0
 entry_beyond k is n [] j h above = entry-nil k j
 entry_beyond k is n (c ∷ cells) j h above =
     entry-cons k c cells j ∙ ap₂ (plus k) (cell_elsewhere c j (λ e. let b : c.column < n = h.0 in absurd (omega arith))) (entry_beyond k is n cells j h.1 above) ∙ plus_zero k 0 (zero_is_element k is)

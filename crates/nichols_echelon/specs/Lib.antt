@@ -6,3 +6,4 @@ pub mod Settled
 pub mod Next
 pub mod Accumulator
 pub mod Pivots
+pub mod Numbering

@@ -12,6 +12,7 @@ mod accumulator;
 mod keeping;
 pub mod laws;
 mod merging;
+mod numbering;
 mod plain;
 mod rows;
 mod sweep;
@@ -24,5 +25,8 @@ pub fn split_rows(alloc: Global, field: Field, rows: &[Row]) -> Result<Vec<Place
     requires count { length rows.now < 2 ^ 32 }
     ensures { IfOk result (λ places. IsSplit field rows.now places.items) }
 {
-    plain::split_rows_plain(alloc, field, rows)
+    let _modulus = field.modulus();
+    let columns = numbering::occurring_columns(alloc, rows)?;
+    let numbered = numbering::numbered_rows(alloc, columns.as_slice(), rows)?;
+    sweep::split_numbered(alloc, field, numbered.as_slice(), columns.len())
 }
