@@ -1,8 +1,7 @@
 -- Adding a row to a table of numbers, cell by cell.
-use Rattle.std.proofs.Common.{◌≡◌, ◌≢◌, ◌<◌, ◌≤◌, ◌+◌, ◌*◌, ◌/◌, ◌^◌, ◌⊎◌, ℕ, zero, suc, Bool, true, false, List, [], ◌∷◌, ◌++◌, refl, sym, ◌∙◌, ap, ap₂, subst, arith, inl, inr, length, get_or, set, take, get_or-set_same, get_or-set_other}
-use Rattle.std.specs.List.{AllByRecursion}
+use Rattle.std.proofs.Common.{◌≡◌, ◌<◌, ◌≤◌, ◌+◌, ◌*◌, ◌/◌, ℕ, Bool, true, false, List, refl, sym, ◌∙◌, ap, subst, arith, inl, inr, length, get_or, set, take, get_or-set_same, get_or-set_other}
 use Rattle.std.proofs.lemmas.List.{length-set}
-use Rattle.std.proofs.lemmas.Bool.{cases_eq, cases_lt}
+use Rattle.std.proofs.lemmas.Bool.{cases_eq}
 use Rattle.nichols_field.specs.Field.{FieldValue, IsField, IsElement, plus, times}
 use Rattle.nichols_field.proofs.FieldLaws.{plus_assoc, plus_zero, times_plus, times_zero, plus_is_element}
 use Rattle.nichols_echelon.specs.Cells.{Cell, cell_value, entry}
@@ -43,12 +42,12 @@ marked-set values blocks c n inside m = record {
   wide = omega (arith, m.wide, length-set values c n, length-set blocks (c / 64) true);
   short = omega (arith, m.short, length-set values c n);
   marked = λ j nonzero.
-    elim (cases_eq (j / 64) (c / 64)) [
-      | inl same ↦ ap (λ b. get_or (set blocks (c / 64) true) b false) same ∙ get_or-set_same blocks (c / 64) true false (block_inside c (length values) (length blocks) inside m.wide)
-      | inr other ↦
-          get_or-set_other blocks (c / 64) (j / 64) true false other
-          ∙ m.marked j (λ e. nonzero (get_or-set_other values c j n 0 (λ h. other (ap (λ x. x / 64) h)) ∙ e))
-    ];
+      elim (cases_eq (j / 64) (c / 64)) [
+        | inl same ↦ ap (λ b. get_or (set blocks (c / 64) true) b false) same ∙ get_or-set_same blocks (c / 64) true false (block_inside c (length values) (length blocks) inside m.wide)
+        | inr other ↦
+            get_or-set_other blocks (c / 64) (j / 64) true false other
+            ∙ m.marked j (λ e. nonzero (get_or-set_other values c j n 0 (λ h. other (ap (λ x. x / 64) h)) ∙ e))
+      ];
 }
 
 pub scatter_more : (k : FieldValue) → IsField k → (by : ℕ) (cells : List Cell) (initial values : List ℕ) (blocks : List Bool) (i : ℕ) (c : Cell) (d n : ℕ) → i < length cells → c ≡ get_or cells i c → d ≡ c.column →
@@ -56,14 +55,14 @@ pub scatter_more : (k : FieldValue) → IsField k → (by : ℕ) (cells : List C
 scatter_more k is by cells initial values blocks i c d n inside item same below e s =
     let at : (column : ℕ) → get_or (set values d n) column 0 ≡ plus k (get_or values column 0) (times k by (cell_value c column)) =
     λ column.
-      ap (λ m. get_or (set values m n) column 0) same ∙ written k is by c values n column s.numbers (subst (λ m. m < length values) same below) (e ∙ ap (λ m. plus k (get_or values m 0) (times k by c.coefficient)) same) in
+    ap (λ m. get_or (set values m n) column 0) same ∙ written k is by c values n column s.numbers (subst (λ m. m < length values) same below) (e ∙ ap (λ m. plus k (get_or values m 0) (times k by c.coefficient)) same) in
     record {
       value = λ column.
-        let v : ℕ = get_or initial column 0 in
-        let t : ℕ = entry k (take i cells) column in
-        let w : ℕ = cell_value c column in
-        at column ∙ ap (λ m. plus k m (times k by w)) (s.value column) ∙ plus_assoc k v (times k by t) (times k by w)
-        ∙ ap (plus k v) (sym (times_plus k by t w) ∙ ap (times k by) (sym (entry_more k is cells i c column inside item)));
+          let v : ℕ = get_or initial column 0 in
+          let t : ℕ = entry k (take i cells) column in
+          let w : ℕ = cell_value c column in
+          at column ∙ ap (λ m. plus k m (times k by w)) (s.value column) ∙ plus_assoc k v (times k by t) (times k by w)
+          ∙ ap (plus k v) (sym (times_plus k by t w) ∙ ap (times k by) (sym (entry_more k is cells i c column inside item)));
       numbers = λ column. subst (IsElement k) (sym (at column)) (plus_is_element k (get_or values column 0) (times k by (cell_value c column)) is);
       marked = marked-set values blocks d n below s.marked;
     }

@@ -1,19 +1,19 @@
 -- Rows with numbered columns have the same entries, so the same rows depend on the rows before them.
-use Rattle.std.proofs.Common.{◌≡◌, ◌≢◌, ◌<◌, ◌≤◌, ◌+◌, ◌-◌, ◌^◌, ◌⊎◌, ℕ, zero, suc, Bool, true, false, List, [], ◌∷◌, ◌++◌, Option, Some, None, refl, sym, ◌∙◌, ap, ap₂, subst, arith, inl, inr, length, get_or, take, drop, append_assoc}
+use Rattle.std.proofs.Common.{◌≡◌, ◌≢◌, ◌<◌, ◌≤◌, ◌+◌, ◌-◌, ◌^◌, ◌⊎◌, ℕ, zero, suc, List, [], ◌∷◌, ◌++◌, sym, ◌∙◌, ap, ap₂, subst, arith, inl, inr, length, get_or, take, drop}
 use Rattle.std.specs.List.{AllByRecursion, Contains}
 use Rattle.std.specs.List.Sorted.{IsStrictlyIncreasing}
-use Rattle.std.proofs.lemmas.List.{get_or_past, drop_more, drop_all, take_more, append-nil}
+use Rattle.std.proofs.lemmas.List.{drop_more, drop_all, take_more}
 use Rattle.std.proofs.lemmas.List.Elements.{Contains-append_left, Contains-append_right, Contains-get_or}
 use Rattle.std.proofs.lemmas.Bool.{cases_eq, cases_lt, cases_order}
 use Rattle.nichols_field.specs.Field.{FieldValue, IsField, IsElement, plus, times}
 use Rattle.nichols_field.proofs.FieldLaws.{plus_zero, times_zero, zero_is_element}
-use Rattle.nichols_echelon.specs.Cells.{Cell, cell_value, entry, IsRow, IsRising, IsBelowFirst, AllNonzero, AllElements, AllBelow, columns_of}
-use Rattle.nichols_echelon.specs.Combination.{row_at, combined, IsCombination, IsDependent, AllRowsElements, AllRowsBelow}
-use Rattle.nichols_echelon.specs.Split.{place_at, IsReduction, IsPlace, IsSplit}
+use Rattle.nichols_echelon.specs.Cells.{Cell, cell_value, entry, IsRow, IsBelowFirst, AllElements, AllBelow, columns_of}
+use Rattle.nichols_echelon.specs.Combination.{row_at, combined, IsCombination, AllRowsElements, AllRowsBelow}
+use Rattle.nichols_echelon.specs.Split.{place_at, IsPlace, IsSplit}
 use Rattle.nichols_echelon.specs.Numbering.{all_columns, AllListed, IsNumbered, AreNumbered}
 use Rattle.nichols_echelon.specs.declared.rows.Place.{Place}
 use Rattle.nichols_echelon.specs.declared.rows.Place.TheVariants.{Independent, Depends}
-use Rattle.nichols_echelon.proofs.Shapes.{all_weaker, row_nil, row_cons, row_front, columns_of-append}
+use Rattle.nichols_echelon.proofs.Shapes.{row_nil, row_cons, row_front, columns_of-append}
 use Rattle.nichols_echelon.proofs.Entries.{entry-nil, entry-cons, cell_here, cell_elsewhere}
 use Rattle.nichols_echelon.proofs.Combinations.{combined-nil, combined-cons}
 use Rattle.nichols_echelon.proofs.Retracing.{entry_beyond}
@@ -65,9 +65,9 @@ numbered_shape columns h (x ∷ xs) (y ∷ ys) n r =
           | inr more ↦
               absurd
               (elim (cases_eq v.column y.column) [
-                 | inl same ↦ let e : u.column ≡ x.column = sym m.1 ∙ ap (λ i. get_or columns i 0) same ∙ n.1 in omega (arith, b)
-                 | inr other ↦ let l : get_or columns v.column 0 < get_or columns y.column 0 = rises columns h v.column y.column (omega arith) n.0 in omega (arith, b, l, m.1, n.1)
-               ])
+                | inl same ↦ let e : u.column ≡ x.column = sym m.1 ∙ ap (λ i. get_or columns i 0) same ∙ n.1 in omega (arith, b)
+                | inr other ↦ let l : get_or columns v.column 0 < get_or columns y.column 0 = rises columns h v.column y.column (omega arith) n.0 in omega (arith, b, l, m.1, n.1)
+              ])
         ]
 
 numbered_below : (columns : List ℕ) (xs ys : List Cell) → IsNumbered columns xs ys → AllBelow (length columns) ys
@@ -160,12 +160,12 @@ module _ (k : FieldValue) (is : IsField k) (columns : List ℕ) (rising : IsStri
       earlier = c.earlier;
       elements = c.elements;
       value = λ x.
-        elim (find_column columns x (length columns)) [
-          | inl found ↦
-              subst (λ y. entry k (row_at rows j) y ≡ combined k rows cells y) found.2
-              (sym (entry_numbered (row_at rows j) (row_at numbered j) found.0 (all.each j) found.1) ∙ c.value found.0 ∙ combined_numbered cells found.0 found.1)
-          | inr none ↦ entry_absent (row_at rows j) (row_at numbered j) x (all.each j) none ∙ sym (combined_absent cells x none)
-        ];
+          elim (find_column columns x (length columns)) [
+            | inl found ↦
+                subst (λ y. entry k (row_at rows j) y ≡ combined k rows cells y) found.2
+                (sym (entry_numbered (row_at rows j) (row_at numbered j) found.0 (all.each j) found.1) ∙ c.value found.0 ∙ combined_numbered cells found.0 found.1)
+            | inr none ↦ entry_absent (row_at rows j) (row_at numbered j) x (all.each j) none ∙ sym (combined_absent cells x none)
+          ];
     }
 
     to_numbered : (j : ℕ) (cells : List Cell) → IsCombination k rows j cells → IsCombination k numbered j cells
@@ -173,11 +173,11 @@ module _ (k : FieldValue) (is : IsField k) (columns : List ℕ) (rising : IsStri
       earlier = c.earlier;
       elements = c.elements;
       value = λ r.
-        elim (cases_lt r (length columns)) [
-          | inl inside ↦
-              entry_numbered (row_at rows j) (row_at numbered j) r (all.each j) inside ∙ c.value (get_or columns r 0) ∙ sym (combined_numbered cells r inside)
-          | inr above ↦ beyond j r above ∙ sym (combined_beyond cells r above)
-        ];
+          elim (cases_lt r (length columns)) [
+            | inl inside ↦
+                entry_numbered (row_at rows j) (row_at numbered j) r (all.each j) inside ∙ c.value (get_or columns r 0) ∙ sym (combined_numbered cells r inside)
+            | inr above ↦ beyond j r above ∙ sym (combined_beyond cells r above)
+          ];
     }
 
     place_to_rows : (places : List Place) (j : ℕ) (place : Place) → IsPlace k numbered places j place → IsPlace k rows places j place

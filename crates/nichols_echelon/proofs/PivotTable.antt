@@ -1,14 +1,13 @@
 -- The table of first columns, with one more kept row.
-use Rattle.std.proofs.Common.{◌≡◌, ◌≢◌, ◌<◌, ◌≤◌, ◌+◌, ◌⊎◌, ℕ, zero, suc, Bool, true, false, List, [], ◌∷◌, ◌++◌, Option, Some, None, refl, sym, ◌∙◌, ap, ap₂, subst, arith, inl, inr, length, get_or, set, replicate, get_or-set_same, get_or-set_other}
-use Rattle.std.specs.List.{AllByRecursion}
+use Rattle.std.proofs.Common.{◌≡◌, ◌<◌, ◌≤◌, ℕ, true, false, List, [], ◌∷◌, ◌++◌, Option, Some, None, sym, ◌∙◌, ap, subst, arith, inl, inr, length, set, replicate, get_or-set_same, get_or-set_other}
 use Rattle.std.proofs.lemmas.List.{length-set, length_push, get_or_past, get_or-replicate, length-replicate}
 use Rattle.std.proofs.lemmas.Bool.{cases_eq, cases_lt}
-use Rattle.nichols_field.specs.Field.{FieldValue, IsField, IsElement, plus, times, negative}
+use Rattle.nichols_field.specs.Field.{FieldValue, IsField, IsElement, times, negative}
 use Rattle.nichols_echelon.specs.Cells.{Cell, entry, IsRow, AllElements, AllBelow}
-use Rattle.nichols_echelon.specs.Echelon.{Kept, kept_at, nothing_kept, is_filled, pivot_of, AllFilled}
+use Rattle.nichols_echelon.specs.Echelon.{Kept, kept_at, nothing_kept, is_filled, pivot_of}
 use Rattle.nichols_echelon.specs.Settled.{IsNew}
 use Rattle.nichols_echelon.specs.Accumulator.{IsZero}
-use Rattle.nichols_echelon.specs.Pivots.{pivot_at, AllUnclaimed, ArePivots, rest_of}
+use Rattle.nichols_echelon.specs.Pivots.{pivot_at, AllUnclaimed, ArePivots}
 use Rattle.nichols_echelon.proofs.Entries.{entry_first}
 use Rattle.nichols_echelon.proofs.KeptRows.{kept_before, kept_last}
 
@@ -27,47 +26,49 @@ module _ (k : FieldValue) (kept : List Kept) (pivots : List (Option ℕ)) (p : A
       ArePivots k (kept ++ e ∷ []) (set pivots q.column (Some (length kept)))
   pivots_new e cells steps q rest n first unclaimed below = record {
     found = λ i h filled.
-      elim (cases_lt i (length kept)) [
-        | inl before ↦
-            let old : pivot_at pivots (pivot_of (kept_at kept i).cells) ≡ Some i = p.found i before (sym (ap (λ (d : Kept). is_filled d.cells) (kept_before kept e i before)) ∙ filled) in
-            ap (λ (d : Kept). pivot_at (set pivots q.column (Some (length kept))) (pivot_of d.cells)) (kept_before kept e i before)
-            ∙ get_or-set_other pivots q.column (pivot_of (kept_at kept i).cells) (Some (length kept)) None (λ same. none_some i (sym free ∙ ap (pivot_at pivots) (sym same) ∙ old)) ∙ old
-        | inr after ↦
-            let last : length kept ≡ i = omega (arith, length_push kept e) in
-            ap (λ (d : Kept). pivot_at (set pivots q.column (Some (length kept))) (pivot_of d.cells)) (kept_last kept e i last)
-            ∙ ap (pivot_at (set pivots q.column (Some (length kept)))) (ap pivot_of (n.same_cells ∙ first)) ∙ get_or-set_same pivots q.column (Some (length kept)) None inside ∙ ap Some last
-      ];
+        elim (cases_lt i (length kept)) [
+          | inl before ↦
+              let old : pivot_at pivots (pivot_of (kept_at kept i).cells) ≡ Some i = p.found i before (sym (ap (λ (d : Kept). is_filled d.cells) (kept_before kept e i before)) ∙ filled) in
+              ap (λ (d : Kept). pivot_at (set pivots q.column (Some (length kept))) (pivot_of d.cells)) (kept_before kept e i before)
+              ∙ get_or-set_other pivots q.column (pivot_of (kept_at kept i).cells) (Some (length kept)) None (λ same. none_some i (sym free ∙ ap (pivot_at pivots) (sym same) ∙ old)) ∙ old
+          | inr after ↦
+              let last : length kept ≡ i = omega (arith, length_push kept e) in
+              ap (λ (d : Kept). pivot_at (set pivots q.column (Some (length kept))) (pivot_of d.cells)) (kept_last kept e i last)
+              ∙ ap (pivot_at (set pivots q.column (Some (length kept)))) (ap pivot_of (n.same_cells ∙ first)) ∙ get_or-set_same pivots q.column (Some (length kept)) None inside ∙ ap Some last
+        ];
     known = λ x i at.
-      elim (cases_eq q.column x) [
-        | inl here ↦
-            let same : length kept ≡ i = some_same (length kept) i (sym (get_or-set_same pivots q.column (Some (length kept)) None inside) ∙ ap (pivot_at (set pivots q.column (Some (length kept)))) here ∙ at) in
-            (omega (arith, length_push kept e),
-             ap (λ (d : Kept). is_filled d.cells) (kept_last kept e i same) ∙ ap is_filled n.same_cells ∙ n.some,
-             ap (λ (d : Kept). pivot_of d.cells) (kept_last kept e i same) ∙ ap pivot_of (n.same_cells ∙ first) ∙ here)
-        | inr other ↦
-            let old : (i < length kept) × (is_filled (kept_at kept i).cells ≡ true) × (pivot_of (kept_at kept i).cells ≡ x) = p.known x i (sym (get_or-set_other pivots q.column x (Some (length kept)) None (λ g. other (sym g))) ∙ at) in
-            (omega (arith, length_push kept e, old.0),
-             ap (λ (d : Kept). is_filled d.cells) (kept_before kept e i old.0) ∙ old.1,
-             ap (λ (d : Kept). pivot_of d.cells) (kept_before kept e i old.0) ∙ old.2)
-      ];
+        elim (cases_eq q.column x) [
+          | inl here ↦
+              let same : length kept ≡ i = some_same (length kept) i (sym (get_or-set_same pivots q.column (Some (length kept)) None inside) ∙ ap (pivot_at (set pivots q.column (Some (length kept)))) here ∙ at) in (
+                omega (arith, length_push kept e),
+                ap (λ (d : Kept). is_filled d.cells) (kept_last kept e i same) ∙ ap is_filled n.same_cells ∙ n.some,
+                ap (λ (d : Kept). pivot_of d.cells) (kept_last kept e i same) ∙ ap pivot_of (n.same_cells ∙ first) ∙ here,
+              )
+          | inr other ↦
+              let old : (i < length kept) × (is_filled (kept_at kept i).cells ≡ true) × (pivot_of (kept_at kept i).cells ≡ x) = p.known x i (sym (get_or-set_other pivots q.column x (Some (length kept)) None (λ g. other (sym g))) ∙ at) in (
+                omega (arith, length_push kept e, old.0),
+                ap (λ (d : Kept). is_filled d.cells) (kept_before kept e i old.0) ∙ old.1,
+                ap (λ (d : Kept). pivot_of d.cells) (kept_before kept e i old.0) ∙ old.2,
+              )
+        ];
     within = λ i h.
-      subst (λ m. AllBelow m (kept_at (kept ++ e ∷ []) i).cells) (sym (length-set pivots q.column (Some (length kept))))
-      (elim (cases_lt i (length kept)) [
-         | inl before ↦ subst (λ (d : Kept). AllBelow (length pivots) d.cells) (sym (kept_before kept e i before)) (p.within i before)
-         | inr after ↦
-             let last : length kept ≡ i = omega (arith, length_push kept e) in
-             subst (λ (d : Kept). AllBelow (length pivots) d.cells) (sym (kept_last kept e i last)) (subst (AllBelow (length pivots)) (sym n.same_cells) below)
-       ]);
+        subst (λ m. AllBelow m (kept_at (kept ++ e ∷ []) i).cells) (sym (length-set pivots q.column (Some (length kept))))
+        (elim (cases_lt i (length kept)) [
+          | inl before ↦ subst (λ (d : Kept). AllBelow (length pivots) d.cells) (sym (kept_before kept e i before)) (p.within i before)
+          | inr after ↦
+              let last : length kept ≡ i = omega (arith, length_push kept e) in
+              subst (λ (d : Kept). AllBelow (length pivots) d.cells) (sym (kept_last kept e i last)) (subst (AllBelow (length pivots)) (sym n.same_cells) below)
+        ]);
     inverse = λ i h filled.
-      elim (cases_lt i (length kept)) [
-        | inl before ↦
-            subst (λ (d : Kept). times k (entry k d.cells (pivot_of d.cells)) d.factor ≡ negative k 1) (sym (kept_before kept e i before))
-            (p.inverse i before (sym (ap (λ (d : Kept). is_filled d.cells) (kept_before kept e i before)) ∙ filled))
-        | inr after ↦
-            let last : length kept ≡ i = omega (arith, length_push kept e) in
-            subst (λ (d : Kept). times k (entry k d.cells (pivot_of d.cells)) d.factor ≡ negative k 1) (sym (kept_last kept e i last))
-            (subst (λ (cs : List Cell). times k (entry k cs (pivot_of cs)) e.factor ≡ negative k 1) (sym n.same_cells) n.inverse)
-      ];
+        elim (cases_lt i (length kept)) [
+          | inl before ↦
+              subst (λ (d : Kept). times k (entry k d.cells (pivot_of d.cells)) d.factor ≡ negative k 1) (sym (kept_before kept e i before))
+              (p.inverse i before (sym (ap (λ (d : Kept). is_filled d.cells) (kept_before kept e i before)) ∙ filled))
+          | inr after ↦
+              let last : length kept ≡ i = omega (arith, length_push kept e) in
+              subst (λ (d : Kept). times k (entry k d.cells (pivot_of d.cells)) d.factor ≡ negative k 1) (sym (kept_last kept e i last))
+              (subst (λ (cs : List Cell). times k (entry k cs (pivot_of cs)) e.factor ≡ negative k 1) (sym n.same_cells) n.inverse)
+        ];
   }
     where
       free : pivot_at pivots q.column ≡ None
@@ -80,30 +81,31 @@ module _ (k : FieldValue) (kept : List Kept) (pivots : List (Option ℕ)) (p : A
   pub pivots_spent : (e : Kept) → e ≡ nothing_kept → ArePivots k (kept ++ e ∷ []) pivots
   pivots_spent e n = record {
     found = λ i h filled.
-      elim (cases_lt i (length kept)) [
-        | inl before ↦
-            ap (λ (d : Kept). pivot_at pivots (pivot_of d.cells)) (kept_before kept e i before) ∙ p.found i before (sym (ap (λ (d : Kept). is_filled d.cells) (kept_before kept e i before)) ∙ filled)
-        | inr after ↦ absurd (last_empty i h after filled)
-      ];
+        elim (cases_lt i (length kept)) [
+          | inl before ↦
+              ap (λ (d : Kept). pivot_at pivots (pivot_of d.cells)) (kept_before kept e i before) ∙ p.found i before (sym (ap (λ (d : Kept). is_filled d.cells) (kept_before kept e i before)) ∙ filled)
+          | inr after ↦ absurd (last_empty i h after filled)
+        ];
     known = λ x i at.
-      let old : (i < length kept) × (is_filled (kept_at kept i).cells ≡ true) × (pivot_of (kept_at kept i).cells ≡ x) = p.known x i at in
-      (omega (arith, length_push kept e, old.0),
-       ap (λ (d : Kept). is_filled d.cells) (kept_before kept e i old.0) ∙ old.1,
-       ap (λ (d : Kept). pivot_of d.cells) (kept_before kept e i old.0) ∙ old.2);
+        let old : (i < length kept) × (is_filled (kept_at kept i).cells ≡ true) × (pivot_of (kept_at kept i).cells ≡ x) = p.known x i at in (
+          omega (arith, length_push kept e, old.0),
+          ap (λ (d : Kept). is_filled d.cells) (kept_before kept e i old.0) ∙ old.1,
+          ap (λ (d : Kept). pivot_of d.cells) (kept_before kept e i old.0) ∙ old.2,
+        );
     within = λ i h.
-      elim (cases_lt i (length kept)) [
-        | inl before ↦ subst (λ (d : Kept). AllBelow (length pivots) d.cells) (sym (kept_before kept e i before)) (p.within i before)
-        | inr after ↦
-            let last : length kept ≡ i = omega (arith, length_push kept e) in
-            subst (λ (d : Kept). AllBelow (length pivots) d.cells) (sym (kept_last kept e i last ∙ n)) tt
-      ];
+        elim (cases_lt i (length kept)) [
+          | inl before ↦ subst (λ (d : Kept). AllBelow (length pivots) d.cells) (sym (kept_before kept e i before)) (p.within i before)
+          | inr after ↦
+              let last : length kept ≡ i = omega (arith, length_push kept e) in
+              subst (λ (d : Kept). AllBelow (length pivots) d.cells) (sym (kept_last kept e i last ∙ n)) tt
+        ];
     inverse = λ i h filled.
-      elim (cases_lt i (length kept)) [
-        | inl before ↦
-            subst (λ (d : Kept). times k (entry k d.cells (pivot_of d.cells)) d.factor ≡ negative k 1) (sym (kept_before kept e i before))
-            (p.inverse i before (sym (ap (λ (d : Kept). is_filled d.cells) (kept_before kept e i before)) ∙ filled))
-        | inr after ↦ absurd (last_empty i h after filled)
-      ];
+        elim (cases_lt i (length kept)) [
+          | inl before ↦
+              subst (λ (d : Kept). times k (entry k d.cells (pivot_of d.cells)) d.factor ≡ negative k 1) (sym (kept_before kept e i before))
+              (p.inverse i before (sym (ap (λ (d : Kept). is_filled d.cells) (kept_before kept e i before)) ∙ filled))
+          | inr after ↦ absurd (last_empty i h after filled)
+        ];
   }
     where
       last_empty : (i : ℕ) → i < length (kept ++ e ∷ []) → length kept ≤ i → is_filled (kept_at (kept ++ e ∷ []) i).cells ≡ true → ⊥
@@ -142,6 +144,6 @@ new_from_first k is cells steps rest q a e first is_a shape elements same_cells 
   some = ap is_filled first;
   factor = factor;
   inverse =
-    ap (λ m. times k m e.factor)
-    (ap (λ (cs : List Cell). entry k cs (pivot_of cs)) first ∙ entry_first k is q rest (subst IsRow first shape) (subst (AllElements k) first elements).0 ∙ sym is_a) ∙ inverse;
+      ap (λ m. times k m e.factor)
+      (ap (λ (cs : List Cell). entry k cs (pivot_of cs)) first ∙ entry_first k is q rest (subst IsRow first shape) (subst (AllElements k) first elements).0 ∙ sym is_a) ∙ inverse;
 }

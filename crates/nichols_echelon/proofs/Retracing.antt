@@ -1,16 +1,15 @@
 -- The sweep back over the positions of a combination of kept rows.
-use Rattle.std.proofs.Common.{◌≡◌, ◌≢◌, ◌<◌, ◌≤◌, ◌+◌, ◌⊎◌, ℕ, zero, suc, Bool, true, false, List, [], ◌∷◌, ◌++◌, Option, Some, None, refl, sym, ◌∙◌, ap, ap₂, subst, arith, inl, inr, length, get_or, set, get_or-set_same, get_or-set_other, reverse}
-use Rattle.std.specs.List.{AllByRecursion}
-use Rattle.std.proofs.lemmas.List.{length-set, get_or_past}
-use Rattle.std.proofs.lemmas.Bool.{cases_eq, cases_lt, cases_order}
+use Rattle.std.proofs.Common.{◌≡◌, ◌≢◌, ◌<◌, ◌≤◌, ℕ, zero, suc, Bool, true, List, [], ◌∷◌, ◌++◌, refl, sym, ◌∙◌, ap, ap₂, subst, arith, inl, inr, length, get_or, set, get_or-set_same, get_or-set_other}
+use Rattle.std.proofs.lemmas.List.{length-set}
+use Rattle.std.proofs.lemmas.Bool.{cases_eq, cases_lt}
 use Rattle.nichols_field.specs.Field.{FieldValue, IsField, IsElement, plus, times, negative}
-use Rattle.nichols_field.proofs.FieldLaws.{plus_comm, plus_assoc, plus_zero, times_zero, zero_is_element, plus_is_element, times_is_element}
+use Rattle.nichols_field.proofs.FieldLaws.{plus_zero, times_zero, zero_is_element, plus_is_element}
 use Rattle.nichols_field.proofs.FieldAlgebra.{zero_plus, zero_times, one_times}
 use Rattle.nichols_echelon.specs.Cells.{Cell, cell_value, entry, IsRow, IsBelowFirst, AllElements, AllBelow, columns_of}
 use Rattle.nichols_echelon.specs.Combination.{row_at, combined}
 use Rattle.nichols_echelon.specs.Echelon.{Kept, kept_at, cells_of, is_filled, AllPass, AllFilled, IsKept, AreKept, AreMade, IsTraced}
 use Rattle.nichols_echelon.specs.Accumulator.{AreElements, IsZero}
-use Rattle.nichols_echelon.proofs.Shapes.{all_append, all_push, all_weaker, row_nil, row_cons}
+use Rattle.nichols_echelon.proofs.Shapes.{all_append, all_push, row_nil, row_cons}
 use Rattle.nichols_echelon.proofs.Entries.{entry-nil, entry-cons, entry-push, entry-append, entry-scaled, entry_is_element, cell_here, cell_elsewhere, scaled}
 use Rattle.nichols_echelon.proofs.Combinations.{combined-nil, combined-cons, combined-push, combined-append, combined-scaled, combined_is_element, combined_from_entries, all_below-scaled}
 use Rattle.nichols_echelon.proofs.KeptRows.{row_cells, kept_read}
@@ -87,14 +86,14 @@ pub retrace_start : (k : FieldValue) → IsField k → (kept : List Kept) (steps
 retrace_start k is kept steps old values none wide below filled loaded =
     let at : (x : ℕ) → get_or values x 0 ≡ entry k steps x =
     λ x.
-      loaded x ∙ ap₂ (plus k) (none x) (one_times k (entry k steps x) (entry_is_element k is steps x)) ∙ zero_plus k (entry k steps x) (entry_is_element k is steps x) in
+    loaded x ∙ ap₂ (plus k) (none x) (one_times k (entry k steps x) (entry_is_element k is steps x)) ∙ zero_plus k (entry k steps x) (entry_is_element k is steps x) in
     let numbers : AreElements k values = λ x. subst (IsElement k) (sym (at x)) (entry_is_element k is steps x) in
     let settled : (j : ℕ) → length kept ≤ j → get_or values j 0 ≡ 0 = λ j h. at j ∙ entry_beyond k is (length kept) steps j below h in
     record {
       value = λ rows made x.
-        ap₂ (plus k)
-        (combined_from_entries k is (cells_of kept) (length kept) (table values (length kept)) steps (all_below-table values (length kept) (length kept) (omega arith)) below (λ j. table_entry k is values (length kept) j numbers settled ∙ at j) x)
-        (combined-nil k rows x) ∙ plus_zero k (combined k (cells_of kept) steps x) (combined_is_element k is (cells_of kept) steps x);
+          ap₂ (plus k)
+          (combined_from_entries k is (cells_of kept) (length kept) (table values (length kept)) steps (all_below-table values (length kept) (length kept) (omega arith)) below (λ j. table_entry k is values (length kept) j numbers settled ∙ at j) x)
+          (combined-nil k rows x) ∙ plus_zero k (combined k (cells_of kept) steps x) (combined_is_element k is (cells_of kept) steps x);
       numbers = numbers;
       settled = settled;
       full = λ j nonzero. entry_passes k is (λ i. is_filled (kept_at kept i).cells) steps j filled (λ e. nonzero (at j ∙ e));
@@ -161,11 +160,11 @@ module _ (k : FieldValue) (is : IsField k) (kept : List Kept) (steps : List Cell
   pub retrace_none : get_or values position 0 ≡ 0 → Retracing k kept steps (set values position 0) position out
   retrace_none none = record {
     value = λ rows made x.
-      ap (λ m. plus k m (combined k rows out x))
-      (sym (apart x ∙ ap (λ v. plus k (combined k (cells_of kept) (table (set values position 0) position) x) (times k v (entry k (row_at (cells_of kept) position) x))) none
-       ∙ ap (plus k (combined k (cells_of kept) (table (set values position 0) position) x)) (zero_times k (entry k (row_at (cells_of kept) position) x) is)
-       ∙ plus_zero k (combined k (cells_of kept) (table (set values position 0) position) x) (combined_is_element k is (cells_of kept) (table (set values position 0) position) x)))
-      ∙ r.value rows made x;
+        ap (λ m. plus k m (combined k rows out x))
+        (sym (apart x ∙ ap (λ v. plus k (combined k (cells_of kept) (table (set values position 0) position) x) (times k v (entry k (row_at (cells_of kept) position) x))) none
+        ∙ ap (plus k (combined k (cells_of kept) (table (set values position 0) position) x)) (zero_times k (entry k (row_at (cells_of kept) position) x) is)
+        ∙ plus_zero k (combined k (cells_of kept) (table (set values position 0) position) x) (combined_is_element k is (cells_of kept) (table (set values position 0) position) x)))
+        ∙ r.value rows made x;
     numbers = taken_numbers;
     settled = taken_settled;
     full = taken_full;
@@ -213,7 +212,7 @@ module _ (k : FieldValue) (is : IsField k) (kept : List Kept) (steps : List Cell
         combined_from_entries k is (cells_of kept) position (table next position) (low ++ scaled k back parts) (all_below-table next position position (omega arith))
         (all_append (λ d. d.column < position) low (scaled k back parts) (all_below-table (set values position 0) position position (omega arith)) (all_below-scaled k back position parts parts_below))
         (λ j. table_entry k is next position j next_numbers next_settled ∙ sum j
-          ∙ sym (entry-append k is low (scaled k back parts) j ∙ ap₂ (plus k) (table_entry k is (set values position 0) position j taken_numbers taken_settled) (entry-scaled k is back parts j))) x
+        ∙ sym (entry-append k is low (scaled k back parts) j ∙ ap₂ (plus k) (table_entry k is (set values position 0) position j taken_numbers taken_settled) (entry-scaled k is back parts j))) x
         ∙ combined-append k is (cells_of kept) low (scaled k back parts) x
         ∙ ap (plus k (combined k (cells_of kept) low x)) (combined-scaled k is (cells_of kept) back parts x ∙ ap (λ (cs : List Cell). times k back (combined k (cells_of kept) cs x)) parts_are)
 
@@ -223,14 +222,14 @@ module _ (k : FieldValue) (is : IsField k) (kept : List Kept) (steps : List Cell
         let filled : is_filled (kept_at kept position).cells ≡ true = r.full position some in
         record {
           value = λ rows made x.
-            let f : ℕ = combined k (cells_of kept) (table (set values position 0) position) x in
-            let s : ℕ = combined k (cells_of kept) (kept_at kept position).steps x in
-            let e : ℕ = entry k (kept_at kept position).cells x in
-            let o : ℕ = combined k rows out x in
-            ap₂ (plus k) (next_combined x) (combined-cons k rows c out x ∙ ap (λ m. plus k (times k (get_or values position 0) m) o) (made position within filled x))
-            ∙ traced_sum k is f s (get_or values position 0) e o (r.numbers position)
-            ∙ ap (λ m. plus k m o) (ap (λ (cs : List Cell). plus k f (times k (get_or values position 0) (entry k cs x))) (sym (row_cells kept position)) ∙ sym (apart x))
-            ∙ r.value rows made x;
+              let f : ℕ = combined k (cells_of kept) (table (set values position 0) position) x in
+              let s : ℕ = combined k (cells_of kept) (kept_at kept position).steps x in
+              let e : ℕ = entry k (kept_at kept position).cells x in
+              let o : ℕ = combined k rows out x in
+              ap₂ (plus k) (next_combined x) (combined-cons k rows c out x ∙ ap (λ m. plus k (times k (get_or values position 0) m) o) (made position within filled x))
+              ∙ traced_sum k is f s (get_or values position 0) e o (r.numbers position)
+              ∙ ap (λ m. plus k m o) (ap (λ (cs : List Cell). plus k f (times k (get_or values position 0) (entry k cs x))) (sym (row_cells kept position)) ∙ sym (apart x))
+              ∙ r.value rows made x;
           numbers = next_numbers;
           settled = next_settled;
           full = next_full;
@@ -246,9 +245,9 @@ module _ (k : FieldValue) (is : IsField k) (kept : List Kept) (steps : List Cell
 pub retraced_all : (k : FieldValue) → IsField k → (kept : List Kept) (steps : List Cell) (values : List ℕ) (before : ℕ) (out : List Cell) → IsZero values → Retracing k kept steps values before out → IsTraced k kept steps out
 retraced_all k is kept steps values before out none r = record {
   value = λ rows made x.
-    sym (ap (λ m. plus k m (combined k rows out x))
-     (combined_from_entries k is (cells_of kept) before (table values before) [] (all_below-table values before before (omega arith)) tt (λ j. table_entry k is values before j r.numbers r.settled ∙ none j ∙ sym (entry-nil k j)) x ∙ combined-nil k (cells_of kept) x)
-     ∙ zero_plus k (combined k rows out x) (combined_is_element k is rows out x)) ∙ r.value rows made x;
+      sym (ap (λ m. plus k m (combined k rows out x))
+      (combined_from_entries k is (cells_of kept) before (table values before) [] (all_below-table values before before (omega arith)) tt (λ j. table_entry k is values before j r.numbers r.settled ∙ none j ∙ sym (entry-nil k j)) x ∙ combined-nil k (cells_of kept) x)
+      ∙ zero_plus k (combined k rows out x) (combined_is_element k is rows out x)) ∙ r.value rows made x;
   shape = r.shape;
   elements = r.elements;
   below = r.below;
@@ -277,8 +276,8 @@ module _ (k : FieldValue) (is : IsField k) (kept : List Kept) (steps : List Cell
       let inside : position < length kept = omega (arith, r.inside, found.0) in
       subst (λ v. Retracing k kept steps next position (record { column = position; coefficient = v } ∷ out)) (sym value_there)
       (retrace_some k is kept steps values before out r position found (λ z. some (value_there ∙ z)) old parts (parts_are ∙ ap (λ (d : Kept). d.steps) (kept_read kept position position e refl inside item)) next
-       (width ∙ ap (λ (vs : List ℕ). length vs) taken_there ∙ length-set values position 0)
-       (λ x. sum x ∙ ap₂ (λ (vs : List ℕ) (b : ℕ). plus k (get_or vs x 0) (times k b (entry k parts x))) taken_there (back_is ∙ ap (negative k) value_there)))
+      (width ∙ ap (λ (vs : List ℕ). length vs) taken_there ∙ length-set values position 0)
+      (λ x. sum x ∙ ap₂ (λ (vs : List ℕ) (b : ℕ). plus k (get_or vs x 0) (times k b (entry k parts x))) taken_there (back_is ∙ ap (negative k) value_there)))
 
 -- the steps of a kept row, to be added below its position
 pub steps_of : (k : FieldValue) (kept : List Kept) (position : ℕ) (e : Kept) → AreKept k kept → position < length kept → e ≡ get_or kept position e → AllElements k e.steps × AllBelow position e.steps

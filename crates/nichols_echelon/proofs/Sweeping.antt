@@ -1,19 +1,19 @@
 -- The sweep over the columns of a sum.
-use Rattle.std.proofs.Common.{◌≡◌, ◌≢◌, ◌<◌, ◌≤◌, ◌+◌, ◌⊎◌, ℕ, zero, suc, Bool, true, false, List, [], ◌∷◌, ◌++◌, Option, Some, None, refl, sym, ◌∙◌, ap, ap₂, subst, arith, inl, inr, length, get_or, set, get_or-set_same, get_or-set_other}
+use Rattle.std.proofs.Common.{◌≡◌, ◌≢◌, ◌<◌, ◌≤◌, ◌+◌, ◌⊎◌, ℕ, suc, true, false, List, [], ◌∷◌, ◌++◌, Option, Some, None, refl, sym, ◌∙◌, ap, ap₂, subst, arith, inl, inr, length, get_or, set, get_or-set_same, get_or-set_other}
 use Rattle.std.specs.List.{AllByRecursion}
-use Rattle.std.proofs.lemmas.List.{length-set, get_or_past}
-use Rattle.std.proofs.lemmas.Bool.{cases_eq, cases_lt, cases_Bool}
+use Rattle.std.proofs.lemmas.List.{length-set}
+use Rattle.std.proofs.lemmas.Bool.{cases_eq, cases_Bool}
 use Rattle.nichols_field.specs.Field.{FieldValue, IsField, IsElement, plus, times, negative}
-use Rattle.nichols_field.proofs.FieldLaws.{plus_comm, plus_assoc, plus_zero, times_assoc, times_comm, times_plus, times_zero, times_negative_one, plus_negative, zero_is_element, plus_is_element, times_is_element, negative_is_element}
+use Rattle.nichols_field.proofs.FieldLaws.{plus_comm, plus_assoc, plus_zero, times_assoc, times_comm, times_zero, plus_negative, zero_is_element, plus_is_element, times_is_element, negative_is_element}
 use Rattle.nichols_field.proofs.FieldAlgebra.{zero_plus, zero_times, one_times, plus_times, difference_of_same}
-use Rattle.nichols_echelon.specs.Cells.{Cell, cell_value, entry, IsRow, IsRising, IsBelowFirst, AllElements, AllBelow, columns_of}
-use Rattle.nichols_echelon.specs.Combination.{row_at, combined}
+use Rattle.nichols_echelon.specs.Cells.{Cell, cell_value, entry, IsRow, AllElements, AllBelow}
+use Rattle.nichols_echelon.specs.Combination.{combined}
 use Rattle.nichols_echelon.specs.Echelon.{Kept, kept_at, cells_of, is_filled, AllFilled, pivot_of, cleared, cleared_by, AreKept, IsRemainder}
 use Rattle.nichols_echelon.specs.Accumulator.{AreElements, IsZero}
 use Rattle.nichols_echelon.specs.Pivots.{pivot_at, AllUnclaimed, ArePivots, rest_of}
 use Rattle.nichols_echelon.proofs.Shapes.{all_push, all_weaker, row_nil}
 use Rattle.nichols_echelon.proofs.Entries.{entry-nil, entry-cons, entry-push, entry_is_element, entry_before, cell_here, cell_elsewhere}
-use Rattle.nichols_echelon.proofs.Combinations.{combined-nil, combined-push, combined_is_element}
+use Rattle.nichols_echelon.proofs.Combinations.{combined-nil, combined-push}
 use Rattle.nichols_echelon.proofs.Clearing.{cleared-same, cleared_by-stays}
 use Rattle.nichols_echelon.proofs.KeptRows.{row_cells, kept_read}
 use Rattle.nichols_echelon.proofs.Reducing.{row-push}
@@ -37,10 +37,10 @@ pub sweep_start : (k : FieldValue) → IsField k → (kept : List Kept) (pivots 
 sweep_start k is kept pivots row old values none width loaded =
     let at : (x : ℕ) → get_or values x 0 ≡ entry k row x =
     λ x.
-      loaded x ∙ ap₂ (plus k) (none x) (one_times k (entry k row x) (entry_is_element k is row x)) ∙ zero_plus k (entry k row x) (entry_is_element k is row x) in
+    loaded x ∙ ap₂ (plus k) (none x) (one_times k (entry k row x) (entry_is_element k is row x)) ∙ zero_plus k (entry k row x) (entry_is_element k is row x) in
     record {
       value = λ x.
-        sym (ap₂ (plus k) (ap₂ (plus k) (entry-nil k x) (at x) ∙ zero_plus k (entry k row x) (entry_is_element k is row x)) (combined-nil k (cells_of kept) x) ∙ plus_zero k (entry k row x) (entry_is_element k is row x));
+          sym (ap₂ (plus k) (ap₂ (plus k) (entry-nil k x) (at x) ∙ zero_plus k (entry k row x) (entry_is_element k is row x)) (combined-nil k (cells_of kept) x) ∙ plus_zero k (entry k row x) (entry_is_element k is row x));
       numbers = λ x. subst (IsElement k) (sym (at x)) (entry_is_element k is row x);
       settled = λ x h. absurd (omega (arith, h));
       width = width;
@@ -124,10 +124,10 @@ module _ (k : FieldValue) (is : IsField k) (kept : List Kept) (pivots : List (Op
       let c : Cell = record { column = column; coefficient = get_or values column 0 } in
       record {
         value = λ x.
-          s.value x
-          ∙ ap (λ m. plus k m (combined k (cells_of kept) steps x))
+            s.value x
+            ∙ ap (λ m. plus k m (combined k (cells_of kept) steps x))
             (ap (plus k (entry k cells x)) (sym (moved k is (λ y. get_or values y 0) (λ y. get_or (set values column 0) y 0) column (get_or values column 0) x taken_other taken_here refl (s.numbers x)))
-             ∙ sym (plus_assoc k (entry k cells x) (cell_value c x) (get_or (set values column 0) x 0)) ∙ ap (λ m. plus k m (get_or (set values column 0) x 0)) (sym (entry-push k is cells c x)));
+            ∙ sym (plus_assoc k (entry k cells x) (cell_value c x) (get_or (set values column 0) x 0)) ∙ ap (λ m. plus k m (get_or (set values column 0) x 0)) (sym (entry-push k is cells c x)));
         numbers = taken_numbers;
         settled = taken_settled;
         width = length-set values column 0 ∙ s.width;
@@ -173,8 +173,8 @@ module _ (k : FieldValue) (is : IsField k) (kept : List Kept) (pivots : List (Op
           | inl same ↦
               subst (λ y. get_or next y 0 ≡ plus k (get_or values y 0) (times k by (entry k e.cells y))) same
               (sum column
-               ∙ ap₂ (λ a b. plus k a (times k by b)) taken_here (rest_here e.cells shape first) ∙ ap (plus k 0) (times_zero k by is) ∙ plus_zero k 0 (zero_is_element k is)
-               ∙ sym (cancels (get_or values column 0) e.factor (entry k e.cells column) (s.numbers column) (sym (ap (λ y. times k (entry k e.cells y) e.factor) first) ∙ inverse)))
+              ∙ ap₂ (λ a b. plus k a (times k by b)) taken_here (rest_here e.cells shape first) ∙ ap (plus k 0) (times_zero k by is) ∙ plus_zero k 0 (zero_is_element k is)
+              ∙ sym (cancels (get_or values column 0) e.factor (entry k e.cells column) (s.numbers column) (sym (ap (λ y. times k (entry k e.cells y) e.factor) first) ∙ inverse)))
           | inr other ↦ sum x ∙ ap₂ (λ a b. plus k a (times k by b)) (taken_other x other) (rest_elsewhere e.cells shape first x other)
         ]
 
@@ -195,15 +195,15 @@ module _ (k : FieldValue) (is : IsField k) (kept : List Kept) (pivots : List (Op
         let c : Cell = record { column = i; coefficient = a } in
         record {
           value = λ x.
-            let y : ℕ = entry k e.cells x in
-            let v : ℕ = get_or values x 0 in
-            let z : ℕ = combined k (cells_of kept) steps x in
-            let q : ℕ = entry k cells x in
-            s.value x
-            ∙ sym (ap₂ (plus k) (ap (plus k q) (next_is x) ∙ sym (plus_assoc k q v (times k by y)))
-                (combined-push k is (cells_of kept) steps c x
-                 ∙ ap (plus k z) (ap₂ (λ m (cs : List Cell). times k m (entry k cs x)) is_a (row_cells kept i ∙ ap (λ (d : Kept). d.cells) at)) ∙ plus_comm k z (times k (negative k by) y))
-               ∙ regrouped (plus k q v) (times k by y) (times k (negative k by) y) z (sym (plus_times k by (negative k by) y) ∙ ap (λ m. times k m y) (plus_negative k by is (times_is_element k (get_or values column 0) e.factor is)) ∙ zero_times k y is) (plus_is_element k q v is));
+              let y : ℕ = entry k e.cells x in
+              let v : ℕ = get_or values x 0 in
+              let z : ℕ = combined k (cells_of kept) steps x in
+              let q : ℕ = entry k cells x in
+              s.value x
+              ∙ sym (ap₂ (plus k) (ap (plus k q) (next_is x) ∙ sym (plus_assoc k q v (times k by y)))
+              (combined-push k is (cells_of kept) steps c x
+              ∙ ap (plus k z) (ap₂ (λ m (cs : List Cell). times k m (entry k cs x)) is_a (row_cells kept i ∙ ap (λ (d : Kept). d.cells) at)) ∙ plus_comm k z (times k (negative k by) y))
+              ∙ regrouped (plus k q v) (times k by y) (times k (negative k by) y) z (sym (plus_times k by (negative k by) y) ∙ ap (λ m. times k m y) (plus_negative k by is (times_is_element k (get_or values column 0) e.factor is)) ∙ zero_times k y is) (plus_is_element k q v is));
           numbers = λ x. subst (IsElement k) (sym (next_is x)) (plus_is_element k (get_or values x 0) (times k by (entry k e.cells x)) is);
           settled = next_settled;
           width = width ∙ s.width;
@@ -282,7 +282,7 @@ taken_out k is old new value factor multiple cells others rest q e g b h x =
 pub took_none : (k : FieldValue) → IsField k → (old : List ℕ) (by : ℕ) (cells : List Cell) → AreElements k old → cells ≡ [] → (x : ℕ) → get_or old x 0 ≡ plus k (get_or old x 0) (times k by (entry k (rest_of cells) x))
 took_none k is old by cells numbers e x =
     sym (ap (λ (cs : List Cell). plus k (get_or old x 0) (times k by (entry k (rest_of cs) x))) e ∙ ap (λ m. plus k (get_or old x 0) (times k by m)) (entry-nil k x)
-     ∙ ap (plus k (get_or old x 0)) (times_zero k by is) ∙ plus_zero k (get_or old x 0) (numbers x))
+    ∙ ap (plus k (get_or old x 0)) (times_zero k by is) ∙ plus_zero k (get_or old x 0) (numbers x))
 
 -- one turn of the loop, by what it found
 module _ (k : FieldValue) (is : IsField k) (kept : List Kept) (pivots : List (Option ℕ)) (row cells steps : List Cell) (values : List ℕ) (from : ℕ) (s : Sweeping k kept pivots row cells steps values from)
@@ -306,7 +306,7 @@ module _ (k : FieldValue) (is : IsField k) (kept : List Kept) (pivots : List (Op
   turn_free some unclaimed =
       subst (λ (vs : List ℕ). Sweeping k kept pivots row (cells ++ record { column = column; coefficient = value } ∷ []) steps vs (column + 1)) (sym taken_there)
       (subst (λ v. Sweeping k kept pivots row (cells ++ record { column = column; coefficient = v } ∷ []) steps (set values column 0) (column + 1)) (sym value_there)
-       (sweep_free k is kept pivots row cells steps values from s column found.0 found.1 found.2 (λ e. some (value_there ∙ e)) unclaimed))
+      (sweep_free k is kept pivots row cells steps values from s column found.0 found.1 found.2 (λ e. some (value_there ∙ e)) unclaimed))
 
   pub turn_pivot : AreKept k kept → ArePivots k kept pivots → (i : ℕ) (e : Kept) → pivot_at pivots column ≡ Some i → e ≡ get_or kept i e → (next : List ℕ) (a : ℕ) →
       ((x : ℕ) → get_or next x 0 ≡ plus k (get_or taken x 0) (times k (times k value e.factor) (entry k (rest_of e.cells) x))) → a ≡ negative k (times k value e.factor) → length next ≡ length taken →

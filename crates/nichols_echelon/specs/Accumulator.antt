@@ -1,5 +1,5 @@
 -- A sum of rows, as one number for each column.
-use Rattle.std.specs.Prelude.{◌≡◌, ◌≢◌, ◌≤◌, ◌<◌, ◌*◌, ◌/◌, ◌^◌, ℕ, Bool, true, false, List, length, slice_index, slice_index_or}
+use Rattle.std.specs.Prelude.{◌≡◌, ◌≢◌, ◌≤◌, ◌*◌, ◌/◌, ◌^◌, ℕ, Bool, true, false, List, length, slice_index, slice_index_or}
 use Rattle.nichols_field.specs.Field.{FieldValue, IsElement}
 
 -- each number is an element of the field

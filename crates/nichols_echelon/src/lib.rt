@@ -30,3 +30,6 @@ pub fn split_rows(alloc: Global, field: Field, rows: &[Row]) -> Result<Vec<Place
     let numbered = numbering::numbered_rows(alloc, columns.as_slice(), rows)?;
     sweep::split_numbered(alloc, field, numbered.as_slice(), columns.len())
 }
+
+#[cfg(test)]
+mod tests;

@@ -1,8 +1,7 @@
-use Rattle.std.proofs.Common.{◌≡◌, ◌≤◌, ◌^◌, List, sym, ◌∙◌, ap, subst, arith, length}
+use Rattle.std.proofs.Common.{sym, ◌∙◌, subst, arith}
 use Rattle.std.proofs.lemmas.Result.{IfOk-weaker}
 use Rattle.std.specs.List.Sorted.{IsStrictlyIncreasing}
-use Rattle.nichols_echelon.specs.Cells.{Cell}
-use Rattle.nichols_echelon.specs.Combination.{AllRowsBelow, AllRowsElements}
+use Rattle.nichols_echelon.specs.Combination.{AllRowsBelow}
 use Rattle.nichols_echelon.specs.Numbering.{AreNumbered}
 use Rattle.nichols_echelon.specs.Split.{IsSplit}
 use Rattle.nichols_echelon.proofs.Numbers.{rows_below, rows_elements, split_to_rows}
@@ -24,6 +23,6 @@ pub returns : goal.returns
 returns c =
     IfOk-weaker c.split_numbered.result (λ places. IsSplit c.args.field c.as_slice-2.result.now places.items) (λ places. IsSplit c.args.field c.args.rows.now places.items)
     (λ places split.
-      split_to_rows c.args.field c.modulus-modulus.ensures.field c.as_slice.result.now (subst IsStrictlyIncreasing (sym c.as_slice.ensures.value) c.in_ok-columns.ensures.rising) c.args.rows.now c.as_slice-2.result.now
-      (subst (AreNumbered c.as_slice.result.now c.args.rows.now) (sym c.as_slice-2.ensures.value) c.in_ok-numbered.ensures.numbered) places.items split)
+    split_to_rows c.args.field c.modulus-modulus.ensures.field c.as_slice.result.now (subst IsStrictlyIncreasing (sym c.as_slice.ensures.value) c.in_ok-columns.ensures.rising) c.args.rows.now c.as_slice-2.result.now
+    (subst (AreNumbered c.as_slice.result.now c.args.rows.now) (sym c.as_slice-2.ensures.value) c.in_ok-numbered.ensures.numbered) places.items split)
     c.split_numbered.ensures

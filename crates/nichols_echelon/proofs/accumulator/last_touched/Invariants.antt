@@ -1,4 +1,4 @@
-use Rattle.std.proofs.Common.{◌≡◌, ◌≤◌, ℕ, get_or, length}
+use Rattle.std.proofs.Common.{◌≡◌, ◌≤◌, ℕ, get_or}
 use Rattle.nichols_echelon.specs.Accumulator.{IsMarked}
 use Rattle.nichols_echelon.proofs.accumulator.last_touched.Given as goal
 

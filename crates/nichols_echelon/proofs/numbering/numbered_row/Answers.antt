@@ -1,4 +1,4 @@
-use Rattle.std.proofs.Common.{◌≡◌, ◌<◌, ◌≤◌, ℕ, List, sym, ◌∙◌, ap, subst, arith, rules, length, get_or, take, Fits, w32}
+use Rattle.std.proofs.Common.{◌≤◌, List, sym, ◌∙◌, ap, subst, arith, get_or, Fits, w32}
 use Rattle.std.proofs.lemmas.List.{take_all}
 use Rattle.nichols_echelon.specs.Cells.{Cell, IsRow}
 use Rattle.nichols_echelon.specs.Numbering.{IsNumbered}

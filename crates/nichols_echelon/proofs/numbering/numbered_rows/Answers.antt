@@ -1,4 +1,4 @@
-use Rattle.std.proofs.Common.{◌<◌, ◌^◌, ℕ, get_or, arith, Fits, w32}
+use Rattle.std.proofs.Common.{◌<◌, ◌^◌, get_or, arith, Fits, w32}
 use Rattle.nichols_echelon.proofs.Numbers.{few_columns}
 use Rattle.nichols_echelon.proofs.numbering.numbered_rows.Goals as goal
 

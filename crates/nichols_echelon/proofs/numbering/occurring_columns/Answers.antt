@@ -1,5 +1,5 @@
-use Rattle.std.proofs.Common.{◌≡◌, ◌<◌, ◌≤◌, ℕ, List, [], ◌++◌, ◌+◌, refl, sym, ◌∙◌, ap, subst, arith, length, get_or, drop, append_assoc}
-use Rattle.std.proofs.lemmas.List.{append-nil, get_or_read}
+use Rattle.std.proofs.Common.{◌≡◌, ◌<◌, ℕ, List, ◌++◌, ◌+◌, refl, sym, ◌∙◌, ap, subst, arith, length, drop, append_assoc}
+use Rattle.std.proofs.lemmas.List.{append-nil}
 use Rattle.std.proofs.lemmas.List.Filters.{dedup_is}
 use Rattle.std.proofs.lemmas.List.Kept.{Contains-dedup_nat}
 use Rattle.std.proofs.lemmas.List.Sorted.{Contains-permutation}
@@ -31,8 +31,8 @@ pub returns-clause-all : goal.returns-clause-all
 returns-clause-all c =
     all_listed c.dedup.new.self.items c.args.rows.now
     (λ x h.
-      rw (dedup_is _ _ _ c.dedup.ensures.filtered)
-      (Contains-dedup_nat _ x
-       (Contains-permutation _ _ x c.sort_unstable.ensures.permutation
-        (subst (λ (xs : List ℕ). Contains xs x)
-         (sym c.loop-row.invariant ∙ ap (λ (xs : List ℕ). c.loop-row.columns.items ++ xs) (all_columns-none c.args.rows.now c.loop-row.row-index (omega arith)) ∙ append-nil c.loop-row.columns.items) h))))
+    rw (dedup_is _ _ _ c.dedup.ensures.filtered)
+    (Contains-dedup_nat _ x
+    (Contains-permutation _ _ x c.sort_unstable.ensures.permutation
+    (subst (λ (xs : List ℕ). Contains xs x)
+    (sym c.loop-row.invariant ∙ ap (λ (xs : List ℕ). c.loop-row.columns.items ++ xs) (all_columns-none c.args.rows.now c.loop-row.row-index (omega arith)) ∙ append-nil c.loop-row.columns.items) h))))
