@@ -8,11 +8,14 @@ ghost use Rattle.nichols_echelon.specs.Split.{IsSplit};
 use nichols_field::Field;
 use std::alloc::{AllocError, Global};
 
+mod accumulator;
 mod keeping;
 pub mod laws;
 mod merging;
+mod numbering;
 mod plain;
 mod rows;
+mod sweep;
 
 pub use rows::{Cell, Place, Row};
 
@@ -22,5 +25,11 @@ pub fn split_rows(alloc: Global, field: Field, rows: &[Row]) -> Result<Vec<Place
     requires count { length rows.now < 2 ^ 32 }
     ensures { IfOk result (λ places. IsSplit field rows.now places.items) }
 {
-    plain::split_rows_plain(alloc, field, rows)
+    let _modulus = field.modulus();
+    let columns = numbering::occurring_columns(alloc, rows)?;
+    let numbered = numbering::numbered_rows(alloc, columns.as_slice(), rows)?;
+    sweep::split_numbered(alloc, field, numbered.as_slice(), columns.len())
 }
+
+#[cfg(test)]
+mod tests;
