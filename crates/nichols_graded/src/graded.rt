@@ -90,7 +90,7 @@ impl Graded {
     pub fn dimension(&self, m: u32) -> u64
         requires { m ≤ self.now.last }
         ensures value { result ≡ dimension is_in_kernel self.now.braid m }
-        ensures small { result < 2 ^ 32 }
+        ensures small { result < 2 ^ 57 }
     {
         self.levels.rule(m).basis.len() as u64
     }

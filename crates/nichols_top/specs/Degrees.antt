@@ -9,7 +9,7 @@ use Rattle.nichols_top.specs.Report.{degree_due}
 -- this is the dimension of degree m, and this its piece of the report
 pub record IsDegree (braid : BraidValue) (m size : ℕ) (piece : List ℕ) : Type 0 where
   pub size_is : size ≡ dimension is_in_kernel braid m
-  pub small : size < 2 ^ 32
+  pub small : size < 2 ^ 57
   pub piece_is : piece ≡ degree_due braid m
 
 -- degree m of the same algebra is finished, and it goes on where the degree isn't empty and the limit allows another

@@ -17,7 +17,7 @@ returns-in-Err-clause-ends g c = header_broken c.args.braid c.args.limit _ _ ⊥
 pub loop-m-init : goal.loop-m-init
 loop-m-init g c = record {
   progress = subst (λ ds. Progress c.args.braid c.args.limit 0 ds (g.K.Sink.taken c.args.sink.now) (g.K.Sink.taken c.put_piece.new.sink)) (sym c.new-dimensions.ensures.items) (header_put c.args.braid c.args.limit _ _ (c.in_default.ensures.piece (header_piece c.args.braid c.args.limit rows_limit) c.header_text.ensures));
-  small = subst (AllByRecursion (λ d. d < 2 ^ 32)) (sym c.new-dimensions.ensures.items) tt;
+  small = subst (AllByRecursion (λ d. d < 2 ^ 57)) (sym c.new-dimensions.ensures.items) tt;
   count = c.put_piece.ensures.count;
 }
 
@@ -36,7 +36,7 @@ returns-in_default-push-clause-ends g c =
 
 pub closed-line-requires : goal.closed-line-requires
 closed-line-requires g c =
-    let all : AllByRecursion (λ d. d < 2 ^ 32) (c.loop-m.dimensions.items ++ c.in-Ok.degree.dimension ∷ []) = all-push (λ d. d < 2 ^ 32) c.loop-m.dimensions.items c.in-Ok.degree.dimension c.loop-m.invariant.small c.in-Ok.ensures.small in
+    let all : AllByRecursion (λ d. d < 2 ^ 57) (c.loop-m.dimensions.items ++ c.in-Ok.degree.dimension ∷ []) = all-push (λ d. d < 2 ^ 57) c.loop-m.dimensions.items c.in-Ok.degree.dimension c.loop-m.invariant.small c.in-Ok.ensures.small in
     let same = c.as_slice.ensures.value ∙ c.in-Ok-push.ensures.items in
     subst (λ ds. sum ds < 2 ^ 64) (sym same) (sum_fits _ (let count : length c.loop-m.dimensions.items ≡ c.loop-m.m = c.loop-m.invariant.progress.count in simp length-append (omega arith)) all)
 
@@ -56,7 +56,7 @@ loop-m-preserved g c = record {
   progress = subst (λ ds. Progress c.args.braid c.args.limit (c.loop-m.m + 1) ds (g.K.Sink.taken c.args.sink.now) (g.K.Sink.taken c.put_piece-in-loop-m.new.sink)) (sym c.in-Ok-push.ensures.items)
       (degree_put c.args.braid c.args.limit c.loop-m.m c.in-Ok.degree.dimension c.loop-m.dimensions.items _ _ _ c.loop-m.invariant.progress (omega arith) c.in-Ok.ensures.size_is (omega (arith, c.if-degree-eq0.false))
       (c.in_default-put_piece.ensures.piece (degree_due c.args.braid c.loop-m.m) c.in-Ok.ensures.piece_is));
-  small = subst (AllByRecursion (λ d. d < 2 ^ 32)) (sym c.in-Ok-push.ensures.items) (all-push (λ d. d < 2 ^ 32) c.loop-m.dimensions.items c.in-Ok.degree.dimension c.loop-m.invariant.small c.in-Ok.ensures.small);
+  small = subst (AllByRecursion (λ d. d < 2 ^ 57)) (sym c.in-Ok-push.ensures.items) (all-push (λ d. d < 2 ^ 57) c.loop-m.dimensions.items c.in-Ok.degree.dimension c.loop-m.invariant.small c.in-Ok.ensures.small);
   count = let a = c.put_piece-in-loop-m.ensures.count in let b = c.loop-m.invariant.count in omega (arith, a, b);
 }
 

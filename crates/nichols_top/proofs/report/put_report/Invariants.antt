@@ -10,6 +10,6 @@ invariant-loop-m g l = record {
   last : l.graded.last ≡ l.m - 1;
   going : l.m ≤ l.limit → l.graded.ended ≡ false;
   progress : Progress l.fn.braid l.limit l.m l.dimensions.items (g.K.Sink.taken l.fn.sink) (g.K.Sink.taken l.sink);
-  small : AllByRecursion (λ d. d < 2 ^ 32) l.dimensions.items;
+  small : AllByRecursion (λ d. d < 2 ^ 57) l.dimensions.items;
   count : g.K.Sink.faults l.fn.sink ≤ g.K.Sink.faults l.sink;
 }
