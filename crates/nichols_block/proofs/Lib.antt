@@ -7,3 +7,4 @@ pub mod ReadingOf
 pub mod Functionals
 pub mod Split
 pub mod NextRule
+pub mod Lowest

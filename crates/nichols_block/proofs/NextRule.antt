@@ -29,7 +29,7 @@ use Rattle.nichols_echelon.proofs.Shapes.{all_append}
 use Rattle.nichols_block.specs.Rule.{PlainRule, derived_form, derived_forms, rule_of, IsRuleOf}
 use Rattle.nichols_block.specs.Rows.{form_cells, row_cells, IsFormOver}
 use Rattle.nichols_block.specs.Reading.{independent_in, dependent_in, IsInside}
-use Rattle.nichols_block.proofs.RuleOf.{derived_form_is_normal, rule_basis}
+use Rattle.nichols_block.proofs.RuleOf.{derived_form_is_normal, rule_with, same_rule}
 use Rattle.nichols_block.proofs.Functionals.{row_number, rows_tell}
 use Rattle.nichols_block.proofs.Split.{IsSaid, AllSaid, HaveEntries, split_says, split_inside, least_are_independent, independent_in-map, relations_are_dependent}
 
@@ -160,12 +160,6 @@ places_inside k rows words places e split = subst (λ n. AllByRecursion (IsInsid
 
 pub words_rise : (braid : BraidValue) (m : ℕ) (words : List (List ℕ)) → words ≡ candidates is_killed braid (suc m) → IsRising words
 words_rise braid m words e = subst IsRising (sym e) (candidates_rise is_killed braid (suc m))
-
-rule_with : ℕ → List (List ℕ) → List (List Combination) → List PlainRelation → PlainRule
-rule_with d us ds ts = record { degree = d; basis = us; derivs = ds; table = ts }
-
-same_rule : (d e : ℕ) (us vs : List (List ℕ)) (ds es : List (List Combination)) (ts rs : List PlainRelation) → d ≡ e → us ≡ vs → ds ≡ es → ts ≡ rs → rule_with d us ds ts ≡ rule_with e vs es rs
-same_rule d e us vs ds es ts rs p q r s = cc
 
 -- what is read off is the next rule
 pub next_rule : (braid : BraidValue) → IsBraid braid → (m : ℕ) (words : List (List ℕ)) (derivs : List (List Combination)) (rows : List (List Cell)) (places : List Place) (d : ℕ) (us : List (List ℕ)) (ds : List (List Combination)) (ts : List PlainRelation) →

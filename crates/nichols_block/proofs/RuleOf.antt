@@ -42,6 +42,12 @@ pub rule_table : (braid : BraidValue) (m : ℕ) (rule : PlainRule) → IsRuleOf 
 unfolding rule_of
 rule_table braid m rule h = ap (λ (r : PlainRule). r.table) h
 
+unfoldable pub rule_with : ℕ → List (List ℕ) → List (List Combination) → List PlainRelation → PlainRule
+rule_with d us ds ts = record { degree = d; basis = us; derivs = ds; table = ts }
+
+pub same_rule : (d e : ℕ) (us vs : List (List ℕ)) (ds es : List (List Combination)) (ts rs : List PlainRelation) → d ≡ e → us ≡ vs → ds ≡ es → ts ≡ rs → rule_with d us ds ts ≡ rule_with e vs es rs
+same_rule d e us vs ds es ts rs p q r s = cc
+
 -- ---- lists by letter
 
 up_to_at : (n a d : ℕ) → a < n → get_or (up_to n) a d ≡ a + 1
