@@ -16,8 +16,8 @@ pub record GradedValue : Type 0 where
   pub ended : Bool
 
 -- no degree below m is empty
-abbrev pub AreOpenBelow : BraidValue → ℕ → Type 0
-AreOpenBelow braid m = (j : ℕ) → j < m → is_empty_degree is_in_kernel braid j ≡ false
+abbrev pub AreFilledBelow : BraidValue → ℕ → Type 0
+AreFilledBelow braid m = (j : ℕ) → j < m → is_empty_degree is_in_kernel braid j ≡ false
 
 -- the end that is reached where degree m is the last finished one and no degree below it is empty
 unfoldable pub end_at : BraidValue → ℕ → ℕ → Option End
@@ -28,7 +28,7 @@ pub record IsGraded (g : GradedValue) : Type 0 where
   pub braid : IsBraid g.braid
   pub most : g.limit ≤ 60
   pub within : g.last ≤ g.limit
-  pub open : AreOpenBelow g.braid g.last
+  pub filled : AreFilledBelow g.braid g.last
   pub going : g.ended ≡ false → is_empty_degree is_in_kernel g.braid g.last ≡ false
 
 -- degree 0 is finished

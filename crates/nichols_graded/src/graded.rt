@@ -37,6 +37,7 @@ impl Graded {
         requires { degree_limit ≤ 60 }
         ensures { IfOk result (λ g. g ≡ started braid degree_limit) }
     {
+        let _field = braid.field();
         let levels = Levels::start(alloc, braid)?;
         Ok(Graded {
             levels,
@@ -92,7 +93,7 @@ impl Graded {
         ensures value { result ≡ dimension is_in_kernel self.now.braid m }
         ensures small { result < 2 ^ 57 }
     {
-        self.levels.rule(m).basis.len() as u64
+        self.levels.rule(m).basis.as_slice().len() as u64
     }
 
     /// The least words of a finished degree, rising.
@@ -100,7 +101,7 @@ impl Graded {
         requires { m ≤ self.now.last }
         ensures { IfOk result (λ r. r.items ≡ basis is_in_kernel self.now.braid m) }
     {
-        self.levels.rule(m).basis.as_slice().to_vec(alloc)
+        copied(alloc, self.levels.rule(m).basis.as_slice())
     }
 
     /// The relations of a finished degree, with rising candidates.
@@ -116,6 +117,7 @@ impl Graded {
 fn reached(levels: &Levels, degree_limit: u32) -> Option<End>
     ensures { result ≡ end_at levels.now.braid degree_limit levels.now.last }
 {
+    let _field = levels.braid().field();
     if levels.closed() {
         return Some(End::Closed);
     }
@@ -123,6 +125,17 @@ fn reached(levels: &Levels, degree_limit: u32) -> Option<End>
         return Some(End::Stopped(Stop::DegreeLimit));
     }
     None
+}
+
+/// The same words in memory of their own.
+fn copied(alloc: Global, words: &[Word]) -> Result<Vec<Word>, AllocError>
+    ensures { IfOk result (λ r. r.items ≡ words.now) }
+{
+    let mut out = Vec::with_capacity(alloc, words.len())?;
+    for word in words {
+        out.push(*word)?;
+    }
+    Ok(out)
 }
 
 /// Equal relations in memory of their own.
