@@ -80,3 +80,7 @@ pub sum_fits : (xs : List ℕ) → length xs ≤ 61 → AllByRecursion (λ d. d 
 sum_fits xs few h =
     let s : sum xs ≤ length xs * 144115188075855872 = sum_bound 144115188075855872 xs h in
     omega arith
+
+-- a degree with a dimension other than 0 isn't empty
+pub filled : (braid : BraidValue) (m size : ℕ) → size ≡ dimension is_in_kernel braid m → 0 < size → is_empty_degree is_in_kernel braid m ≡ false
+filled braid m size e some = subst (λ d. nat_eq d 0 ≡ false) e (let s : nat_eq size 0 ≡ false = grind (arith, nat_tests) in s)

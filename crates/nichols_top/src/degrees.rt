@@ -22,12 +22,24 @@ pub(crate) fn reach(alloc: Global, graded: &mut Graded, m: u32) -> Result<Degree
     ensures degree { IfOk result (λ d. IsDegree graded.old.braid m d.dimension d.piece.items) }
     ensures reached { OnOk result (IsReached graded.old graded.new m) }
 {
-    if m > 0 {
-        graded.advance(alloc)?;
-    }
+    finish(alloc, graded, m)?;
     let dimension = graded.dimension(m);
     let basis = graded.basis(alloc, m)?;
     let relations = graded.relations(alloc, m)?;
     let piece = degree_text(alloc, m, basis.as_slice(), relations.as_slice(), false)?;
     Ok(Degree { dimension, piece })
+}
+
+/// Finishes degree m, which is degree 0 or the one behind the last finished degree.
+fn finish(alloc: Global, graded: &mut Graded, m: u32) -> Result<(), AllocError>
+    requires next { graded.old.last ≡ m - 1 }
+    requires going { graded.old.ended ≡ false }
+    requires within { m ≤ graded.old.limit }
+    ensures { OnOk result (IsReached graded.old graded.new m) }
+{
+    if m == 0 {
+        return Ok(());
+    }
+    graded.advance(alloc)?;
+    Ok(())
 }
