@@ -11,3 +11,5 @@ pub mod Totals
 pub mod Factorisation
 pub mod Kernel
 pub mod Readings
+pub mod Parts
+pub mod Recursion

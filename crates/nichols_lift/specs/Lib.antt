@@ -1,3 +1,4 @@
 pub mod ClosedForm
 pub mod Laws
 pub mod Reading
+pub mod Lengths

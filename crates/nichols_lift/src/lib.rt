@@ -1,4 +1,7 @@
-//! Lifts of permutations to words, and the laws of the quantum symmetrizer.
+//! Lifts of permutations to words, and the quantum symmetrizer with its laws.
 #![tactic(auto)]
 
+mod image;
 pub mod laws;
+
+pub use image::symmetrize;
