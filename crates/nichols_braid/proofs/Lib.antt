@@ -26,3 +26,5 @@ pub mod Agreement
 pub mod Spanning
 pub mod Rows
 pub mod LeastLaws
+pub mod Functionals
+pub mod FirstDegree
