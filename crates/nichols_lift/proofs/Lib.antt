@@ -13,3 +13,5 @@ pub mod Kernel
 pub mod Readings
 pub mod Parts
 pub mod Recursion
+pub mod Leading
+pub mod Perms
