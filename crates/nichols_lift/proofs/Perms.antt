@@ -180,16 +180,3 @@ exchanged_array n (suc j) xs ys h d e =
           rearrangement = subst (λ l. IsRearrangement l (exchanged (suc j) (take n xs))) (sym long) (IsPermutation-trans (up_to (length (take n xs))) (take n xs) (exchanged (suc j) (take n xs)) h.perm.rearrangement (exchanged_is_permutation (suc j) (take n xs) d));
         });
       })
-
--- ---- the array that end places are put into
-
-pub filled_array : (ends array : List ℕ) → IsPerm ends → array ≡ ends ++ replicate (place_limit - length ends) 0 → (take (length ends) array ≡ ends) × IsInline (length ends) array
-filled_array ends array p shape =
-    let front : take (length ends) array ≡ ends = ap (take (length ends)) shape ∙ take_at ends (replicate (place_limit - length ends) 0) (length ends) refl in
-    ( front
-    , record {
-        short = p.short;
-        whole = ap length shape ∙ length-append ends (replicate (place_limit - length ends) 0) ∙ ap (λ n. length ends + n) (length-replicate (place_limit - length ends) 0) ∙ omega (arith, p.short);
-        padded = ap (drop (length ends)) shape ∙ drop-append_seam ends (replicate (place_limit - length ends) 0);
-        perm = subst IsPerm (sym front) p;
-      })

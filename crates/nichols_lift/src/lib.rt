@@ -11,3 +11,6 @@ pub use crossing::cross_at;
 pub use image::symmetrize;
 pub use lifting::{lift, lift_by};
 pub use perm::Perm;
+
+#[cfg(test)]
+mod tests;

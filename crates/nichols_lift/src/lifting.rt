@@ -27,8 +27,7 @@ pub fn lift(braid: &Braid, perm: &Perm, word: &Word) -> (Word, u32)
     let mut scalar = 1;
     while let Some(place) = left.first_descent() {
         left.exchange(place);
-        let met = cross_at(braid, &mut crossed, place);
-        scalar = field.mul(scalar, met);
+        scalar = field.mul(scalar, cross_at(braid, &mut crossed, place));
     }
     (crossed, scalar)
 }

@@ -7,3 +7,6 @@ mod degree;
 mod images;
 
 pub use degree::{PlainDegree, plain_degree};
+
+#[cfg(test)]
+mod tests;

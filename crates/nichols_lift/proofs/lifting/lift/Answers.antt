@@ -15,11 +15,11 @@ loop-place-init c =
 pub exchange-requires : goal.exchange-requires
 exchange-requires c = found_is_descent c.loop-place.left c.in-Some.place (sym c.first_descent.ensures ∙ c.in-Some.is)
 
-pub cross_at-met-requires-clause-first : goal.cross_at-met-requires-clause-first
-cross_at-met-requires-clause-first c = (descent_within c.in-Some.place c.loop-place.left (found_is_descent c.loop-place.left c.in-Some.place (sym c.first_descent.ensures ∙ c.in-Some.is))).0
+pub cross_at-requires-clause-first : goal.cross_at-requires-clause-first
+cross_at-requires-clause-first c = (descent_within c.in-Some.place c.loop-place.left (found_is_descent c.loop-place.left c.in-Some.place (sym c.first_descent.ensures ∙ c.in-Some.is))).0
 
-pub cross_at-met-requires-clause-last : goal.cross_at-met-requires-clause-last
-cross_at-met-requires-clause-last c =
+pub cross_at-requires-clause-last : goal.cross_at-requires-clause-last
+cross_at-requires-clause-last c =
     subst (λ n. c.in-Some.place < n) (sym c.loop-place.invariant.size) (descent_within c.in-Some.place c.loop-place.left (found_is_descent c.loop-place.left c.in-Some.place (sym c.first_descent.ensures ∙ c.in-Some.is))).1
 
 pub loop-place-smaller : goal.loop-place-smaller
@@ -28,8 +28,8 @@ loop-place-smaller c = fewer_left c.in-Some.place c.loop-place.left c.exchange.n
 pub loop-place-preserved : goal.loop-place-preserved
 loop-place-preserved c =
     leading-cross c.args.braid.now c.args.perm.now c.args.word.now c.loop-place.left c.loop-place.crossed c.loop-place.scalar c.in-Some.place c.loop-place.invariant
-    (found_is_descent c.loop-place.left c.in-Some.place (sym c.first_descent.ensures ∙ c.in-Some.is)) c.exchange.new.self c.cross_at-met.new.word c.cross_at-met.result c.mul-scalar.result c.exchange.ensures c.cross_at-met.ensures.word c.cross_at-met.ensures.length
-    c.cross_at-met.ensures.letters c.cross_at-met.ensures.scalar (c.mul-scalar.ensures.product ∙ ap (λ k. times k c.loop-place.scalar c.cross_at-met.result) c.field-field.ensures.field)
+    (found_is_descent c.loop-place.left c.in-Some.place (sym c.first_descent.ensures ∙ c.in-Some.is)) c.exchange.new.self c.cross_at.new.word c.cross_at.result c.mul-scalar.result c.exchange.ensures c.cross_at.ensures.word c.cross_at.ensures.length
+    c.cross_at.ensures.letters c.cross_at.ensures.scalar (c.mul-scalar.ensures.product ∙ ap (λ k. times k c.loop-place.scalar c.cross_at.result) c.field-field.ensures.field)
     (subst (λ k. IsElement k c.mul-scalar.result) c.field-field.ensures.field c.mul-scalar.ensures.element)
 
 pub returns-clause-word : goal.returns-clause-word
