@@ -5,3 +5,6 @@ mod derivation;
 mod passing;
 
 pub use derivation::derive;
+
+#[cfg(test)]
+mod tests;

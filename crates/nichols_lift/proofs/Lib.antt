@@ -11,3 +11,7 @@ pub mod Totals
 pub mod Factorisation
 pub mod Kernel
 pub mod Readings
+pub mod Parts
+pub mod Recursion
+pub mod Leading
+pub mod Perms
