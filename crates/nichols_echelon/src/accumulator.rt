@@ -46,7 +46,7 @@ fn scatter(field: Field, by: u32, cells: &[Cell], values: &mut [u32], blocks: &m
     let _modulus = field.modulus();
     for cell in cells {
         let column = cell.column as usize;
-        values[column] = field.add(values[column], field.mul(by, cell.coefficient));
+        values[column] = field.add_product(values[column], by, cell.coefficient);
         blocks[column / BLOCK] = true;
     }
 }

@@ -10,8 +10,8 @@ loop-cell-init c = scatter_start c.args.field c.modulus-modulus.ensures.field c.
 
 pub loop-cell-preserved : goal.loop-cell-preserved
 loop-cell-preserved c =
-    scatter_more c.args.field c.modulus-modulus.ensures.field c.args.by c.args.cells.now c.args.values.now c.loop-cell.values c.loop-cell.blocks c.loop-cell.cell-index c.cell-item.result c.cell.inside.column c.add.result
+    scatter_more c.args.field c.modulus-modulus.ensures.field c.args.by c.args.cells.now c.args.values.now c.loop-cell.values c.loop-cell.blocks c.loop-cell.cell-index c.cell-item.result c.cell.inside.column c.add_product.result
     (omega arith) c.cell-item.is (ap (λ (d : Cell). d.column) c.cell.view_is)
     (subst (λ (n : ℕ). c.cell.inside.column < n) (sym c.loop-cell.auto.values)
     (subst (λ (d : Cell). d.column < length c.args.values.now) (sym c.cell.view_is) (all_read (λ (d : Cell). d.column < length c.args.values.now) c.args.cells.now c.loop-cell.cell-index c.cell-item.result c.cell-item.result c.requires.below (omega arith) c.cell-item.is)))
-    (c.add.ensures.sum ∙ ap (plus c.args.field (get_or c.loop-cell.values c.cell.inside.column 0)) (c.mul.ensures.product ∙ ap (λ (d : Cell). times c.args.field c.args.by d.coefficient) c.cell.view_is)) c.loop-cell.invariant
+    (c.add_product.ensures.value ∙ ap (plus c.args.field (get_or c.loop-cell.values c.cell.inside.column 0)) (ap (λ (d : Cell). times c.args.field c.args.by d.coefficient) c.cell.view_is)) c.loop-cell.invariant
