@@ -106,7 +106,7 @@ table_form braid is m w i = subst (λ table. IsFormOf braid m w (form_in table w
     at true e =
         let none : IsIn w (candidates_of (map (relation_at is_killed braid m) others)) → ⊥ =
         λ j. let (h, other) = from_filter (λ v. not (is_least is_killed braid v)) w (candidates is_killed braid m) (subst (IsIn w) (candidates_listed form others) j) in
-          let c : true ≡ false = sym e ∙ negated (is_least is_killed braid w) other in cc in
+        let c : true ≡ false = sym e ∙ negated (is_least is_killed braid w) other in cc in
         subst (IsFormOf braid m w) (sym (form_elsewhere (map (relation_at is_killed braid m) others) w none))
         (record {
           among = (in_basis is_killed braid m w own.0 own.1 e, tt);
@@ -124,12 +124,13 @@ followed_is_form : (braid : BraidValue) → IsBraid braid → (p : ℕ) (u : Lis
     AllAmong (followed_form braid.field (relations is_killed braid (suc p)) (normal_form is_killed braid p (derived braid a (single u))) c) (basis is_killed braid (suc p))
     × AreCongruent braid.field (is_killed braid (suc p)) (times_letter (derived braid a (single u)) c) (followed_form braid.field (relations is_killed braid (suc p)) (normal_form is_killed braid p (derived braid a (single u))) c)
 unfolding AllAmong
-followed_is_form braid is p u a c size over la lc =
-    (among-extended k image g (basis is_killed braid (suc p)) (all_forms g n.least),
-    congruent_trans k is.field (is_killed braid (suc p)) l (times_letter d c) (times_letter g c) (extended k image g)
-    (subst (λ h. is_killed braid (suc p) h ≡ true) (times_letter-minus k d g c) (killed_stays_killed braid is p (minus k d g) c lc n.congruent))
-    (congruent_left k is.field (is_killed braid (suc p)) l (extended k (λ v. single (v ++ c ∷ [])) g) (times_letter g c) (extended k image g) (λ w. sym (times_letter_is_extended k is.field g c w))
-    (congruent_extended k is.field (is_killed braid (suc p)) l (λ v. single (v ++ c ∷ [])) image g (all_congruent g n.least))))
+followed_is_form braid is p u a c size over la lc = (
+  among-extended k image g (basis is_killed braid (suc p)) (all_forms g n.least),
+  congruent_trans k is.field (is_killed braid (suc p)) l (times_letter d c) (times_letter g c) (extended k image g)
+      (subst (λ h. is_killed braid (suc p) h ≡ true) (times_letter-minus k d g c) (killed_stays_killed braid is p (minus k d g) c lc n.congruent))
+      (congruent_left k is.field (is_killed braid (suc p)) l (extended k (λ v. single (v ++ c ∷ [])) g) (times_letter g c) (extended k image g) (λ w. sym (times_letter_is_extended k is.field g c w))
+      (congruent_extended k is.field (is_killed braid (suc p)) l (λ v. single (v ++ c ∷ [])) image g (all_congruent g n.least))),
+)
   where
     k : FieldValue
     k = braid.field
@@ -185,11 +186,12 @@ derived_from_is braid is m u a b i la lb =
     let first : Combination = if nat_eq a b then single u else [] in
     let later : Combination = times_letter (derived braid a (single u)) c in
     let form : Combination = followed_form k (relations is_killed braid m) (derived_form braid m u a) c in
-    let rest : AllAmong form (basis is_killed braid m) × AreCongruent k (is_killed braid m) later form = followed_in_degree braid is m u a c own.0 own.1 la (is.rack.closed a b la lb) in
-    (among-append first (scaled k q form) (basis is_killed braid m) (among_chosen (nat_eq a b) u (basis is_killed braid m) i) (among-scaled k q form (basis is_killed braid m) rest.0),
-    congruent_left k is.field (is_killed braid m) l (first ++ scaled k q later) (derived braid a (single (u ++ b ∷ []))) (first ++ scaled k q form) (λ w. sym (derivation_rule braid is a b (single u) w))
-    (congruent-append k is.field (is_killed braid m) l first first (scaled k q later) (scaled k q form) (congruent_same k is.field (is_killed braid m) l first first (λ w. refl))
-    (congruent-scaled k is.field (is_killed braid m) l q later form rest.1)))
+    let rest : AllAmong form (basis is_killed braid m) × AreCongruent k (is_killed braid m) later form = followed_in_degree braid is m u a c own.0 own.1 la (is.rack.closed a b la lb) in (
+      among-append first (scaled k q form) (basis is_killed braid m) (among_chosen (nat_eq a b) u (basis is_killed braid m) i) (among-scaled k q form (basis is_killed braid m) rest.0),
+      congruent_left k is.field (is_killed braid m) l (first ++ scaled k q later) (derived braid a (single (u ++ b ∷ []))) (first ++ scaled k q form) (λ w. sym (derivation_rule braid is a b (single u) w))
+          (congruent-append k is.field (is_killed braid m) l first first (scaled k q later) (scaled k q form) (congruent_same k is.field (is_killed braid m) l first first (λ w. refl))
+          (congruent-scaled k is.field (is_killed braid m) l q later form rest.1)),
+    )
 
 -- what has its values, in order, is the normal form
 pub derivative_is_normal : (braid : BraidValue) → IsBraid braid → (m : ℕ) (table : List PlainRelation) (u : List ℕ) (form r : Combination) (a b : ℕ) → IsIn u (basis is_killed braid m) → IsLetter braid a → IsLetter braid b →

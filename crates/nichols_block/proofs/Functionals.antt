@@ -88,8 +88,8 @@ same_mark ws offset v w i j = at (same_letters v w) refl
     at false e =
         ne_eqb (offset + place_in ws v) (offset + place_in ws w)
         (λ same.
-          let places : place_in ws v ≡ place_in ws w = omega arith in
-          other_text v w (sym e) (sym (place_within ws v i).1 ∙ ap (word_at ws) places ∙ (place_within ws w j).1))
+        let places : place_in ws v ≡ place_in ws w = omega arith in
+        other_text v w (sym e) (sym (place_within ws v i).1 ∙ ap (word_at ws) places ∙ (place_within ws w j).1))
 
 weight_at : (k : FieldValue) → IsField k → (ws : List (List ℕ)) (offset : ℕ) (f : Combination) (w : List ℕ) → AllElements k f → AllAmong f ws → IsIn w ws → weight k (mark ws offset (offset + place_in ws w)) f ≡ value_at k f w
 unfolding weight AllAmong
@@ -143,10 +143,10 @@ zeros_of_total k is ws offset (f ∷ forms) h none = (first, zeros_of_total k is
     first =
         zero_on k is ws f h.0.1
         (λ w i.
-          let column : ℕ = offset + place_in ws w in
-          let inside : place_in ws w < length ws = (place_within ws w i).0 in
-          sym (weight_at k is ws offset f w h.0.0 h.0.1 i) ∙ sym (plus_zero k (weight k (mark ws offset column) f) (weight_is_element k is (mark ws offset column) f))
-          ∙ ap (plus k (weight k (mark ws offset column) f)) (sym (total_before k is ws (offset + length ws) forms column (omega arith))) ∙ none column)
+        let column : ℕ = offset + place_in ws w in
+        let inside : place_in ws w < length ws = (place_within ws w i).0 in
+        sym (weight_at k is ws offset f w h.0.0 h.0.1 i) ∙ sym (plus_zero k (weight k (mark ws offset column) f) (weight_is_element k is (mark ws offset column) f))
+        ∙ ap (plus k (weight k (mark ws offset column) f)) (sym (total_before k is ws (offset + length ws) forms column (omega arith))) ∙ none column)
 
     rest : (column : ℕ) → total k ws (offset + length ws) forms column ≡ 0
     rest column =
@@ -166,9 +166,11 @@ sum_of_rows k is ws offset column form (a ∷ letters) f e =
     each : (f : Combination) → AllByRecursion (λ t. AllByRecursion (λ b. AllElements k (form t.word b)) (a ∷ letters)) f →
         AllByRecursion (λ t. entry k (row_cells ws offset (map (form t.word) (a ∷ letters))) column ≡ plus k (weight k (mark ws offset column) (form t.word a)) (entry k (row_cells ws (offset + length ws) (map (form t.word) letters)) column)) f
     each [] h = tt
-    each (t ∷ f) h =
-        (entry-append k is (form_cells ws offset (form t.word a)) (row_cells ws (offset + length ws) (map (form t.word) letters)) column
-        ∙ ap (λ n. plus k n (entry k (row_cells ws (offset + length ws) (map (form t.word) letters)) column)) (entry_form k is ws offset column (form t.word a) h.0.0), each f h.1)
+    each (t ∷ f) h = (
+      entry-append k is (form_cells ws offset (form t.word a)) (row_cells ws (offset + length ws) (map (form t.word) letters)) column
+          ∙ ap (λ n. plus k n (entry k (row_cells ws (offset + length ws) (map (form t.word) letters)) column)) (entry_form k is ws offset column (form t.word a) h.0.0),
+      each f h.1,
+    )
 
     later : (f : Combination) → AllByRecursion (λ t. AllByRecursion (λ b. AllElements k (form t.word b)) (a ∷ letters)) f → AllByRecursion (λ t. AllByRecursion (λ b. AllElements k (form t.word b)) letters) f
     later [] h = tt
@@ -184,11 +186,12 @@ row_number braid m column w = entry braid.field (row_cells (basis is_killed brai
 pub summed_form : (braid : BraidValue) → IsBraid braid → (m a : ℕ) → IsLetter braid a → (f : Combination) → AllAmong f (candidates is_killed braid (suc m)) →
     AllAmong (extended braid.field (λ w. derived_form braid (suc m) w a) f) (basis is_killed braid m) × AreCongruent braid.field (is_killed braid m) (derived braid a f) (extended braid.field (λ w. derived_form braid (suc m) w a) f)
 unfolding AllAmong
-summed_form braid is m a letter f among =
-    (among-extended braid.field form f (basis is_killed braid m) (all_among f among),
-    congruent_left braid.field is.field (is_killed braid m) (killed_is_linear braid is m) (extended braid.field (λ w. derived braid a (single w)) f) (derived braid a f) (extended braid.field form f)
-    (extended_same braid.field is.field (λ w. derived braid a (single w)) (derived_word braid a) f (λ w. extended-single braid.field is.field (derived_word braid a) w))
-    (congruent_extended braid.field is.field (is_killed braid m) (killed_is_linear braid is m) (λ w. derived braid a (single w)) form f (all_congruent f among)))
+summed_form braid is m a letter f among = (
+  among-extended braid.field form f (basis is_killed braid m) (all_among f among),
+  congruent_left braid.field is.field (is_killed braid m) (killed_is_linear braid is m) (extended braid.field (λ w. derived braid a (single w)) f) (derived braid a f) (extended braid.field form f)
+      (extended_same braid.field is.field (λ w. derived braid a (single w)) (derived_word braid a) f (λ w. extended-single braid.field is.field (derived_word braid a) w))
+      (congruent_extended braid.field is.field (is_killed braid m) (killed_is_linear braid is m) (λ w. derived braid a (single w)) form f (all_congruent f among)),
+)
   where
     form : List ℕ → Combination
     form w = derived_form braid (suc m) w a
@@ -239,11 +242,13 @@ rows_tell braid is m = record {
 
     all_elements : (f : Combination) → AllAmong f (candidates is_killed braid (suc m)) → AllByRecursion (λ t. AllByRecursion (λ a. AllElements k (derived_form braid (suc m) t.word a)) (up_to braid.letters)) f
     all_elements [] h = tt
-    all_elements (t ∷ f) h =
-        (all_from_in (λ a. AllElements k (derived_form braid (suc m) t.word a)) (up_to braid.letters)
-        (λ a i.
+    all_elements (t ∷ f) h = (
+      all_from_in (λ a. AllElements k (derived_form braid (suc m) t.word a)) (up_to braid.letters)
+          (λ a i.
           let own : (length t.word ≡ suc m) × IsWordOver braid.letters t.word = from_candidates is_killed braid (suc m) t.word h.0 in
-          (derived_form_is_normal braid is m t.word a own.0 own.1 (from_up_to braid.letters a i)).elements), all_elements f h.1)
+          (derived_form_is_normal braid is m t.word a own.0 own.1 (from_up_to braid.letters a i)).elements),
+      all_elements f h.1,
+    )
 
     sum : (f : Combination) → AllAmong f (candidates is_killed braid (suc m)) → (c : ℕ) → weight k (row_number braid m c) f ≡ total k ws 0 (sums f) c
     sum f among c = sum_of_rows k is.field ws 0 c (derived_form braid (suc m)) (up_to braid.letters) f (all_elements f among)

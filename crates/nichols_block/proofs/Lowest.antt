@@ -44,10 +44,10 @@ unfolding is_killed
 empty_is_least braid is =
     least_unless is_killed braid []
     (λ f among elements h.
-      let k : FieldValue = braid.field in
-      let passes : is_killed braid 0 (single []) ≡ true = zero_congruent k is.field (is_killed braid 0) (killed_is_linear braid is 0) (single []) (subst (AreCongruent k (is_killed braid 0) (single [])) (nothing_before braid.letters f among) h) in
-      let none : ◌≡◌ {A = ℕ} 1 0 = sym (plus_zero k 1 (one_is_element k is.field)) ∙ is_zero_sound k is.field (single []) passes [] in
-      cc)
+    let k : FieldValue = braid.field in
+    let passes : is_killed braid 0 (single []) ≡ true = zero_congruent k is.field (is_killed braid 0) (killed_is_linear braid is 0) (single []) (subst (AreCongruent k (is_killed braid 0) (single [])) (nothing_before braid.letters f among) h) in
+    let none : ◌≡◌ {A = ℕ} 1 0 = sym (plus_zero k 1 (one_is_element k is.field)) ∙ is_zero_sound k is.field (single []) passes [] in
+    cc)
 
 basis_first : (braid : BraidValue) → IsBraid braid → basis is_killed braid 0 ≡ [] ∷ []
 unfolding basis words

@@ -112,8 +112,8 @@ unfolding derived_forms
 forms_elements braid is m w i =
     all_mapped (λ f. AllElements braid.field f) (derived_form braid (suc m) w) (up_to braid.letters)
     (λ a j.
-      let own : (length w ≡ suc m) × IsWordOver braid.letters w = from_candidates is_killed braid (suc m) w i in
-      (derived_form_is_normal braid is m w a own.0 own.1 (from_up_to braid.letters a j)).elements)
+    let own : (length w ≡ suc m) × IsWordOver braid.letters w = from_candidates is_killed braid (suc m) w i in
+    (derived_form_is_normal braid is m w a own.0 own.1 (from_up_to braid.letters a j)).elements)
 
 -- the rows that the candidates have
 abbrev pub AreRowsOf : BraidValue → ℕ → List (List Cell) → Type 0

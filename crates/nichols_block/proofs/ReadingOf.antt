@@ -77,18 +77,17 @@ popped_more left rest x ps i p e i_is short at =
 pub popped_short : {X : Type 0} (left rest : List X) (x : X) (ps : List Place) → left ≡ rest ++ x ∷ [] → length left ≤ length ps → length rest ≤ length ps
 popped_short left rest x ps e short = let longer : length left ≡ length rest + 1 = ap length e ∙ length-append rest (x ∷ []) in omega arith
 
-pub popped_kept : {X : Type 0} (left rest : List X) (x : X) (ps : List Place) (i : ℕ) (p : Place) (out more whole : List X) → left ≡ rest ++ x ∷ [] → i ≡ length rest → length left ≤ length ps → p ≡ get_or ps i p → p ≡ Independent →
-    more ≡ out ++ x ∷ [] → independent_in left (take (length left) ps) ++ reverse out ≡ whole → independent_in rest (take (length rest) ps) ++ reverse more ≡ whole
-popped_kept left rest x ps i p out more whole e i_is short at is pushed h =
-    let front : List _ = independent_in rest (take (length rest) ps) in
-    ap (λ zs. front ++ reverse zs) pushed ∙ ap (λ zs. front ++ zs) (reverse-append out (x ∷ [])) ∙ sym (append_assoc front (x ∷ []) (reverse out))
-    ∙ ap (λ zs. zs ++ reverse out) (sym (popped_more left rest x ps i p e i_is short at ∙ ap (λ q. front ++ independent_in (x ∷ []) (q ∷ [])) is)) ∙ h
+reverse_one : {X : Type 0} (x : X) (p : Place) → reverse (independent_in (x ∷ []) (p ∷ [])) ≡ independent_in (x ∷ []) (p ∷ [])
+reverse_one x Independent = refl
+reverse_one x (Depends cells) = refl
 
-pub popped_skipped : {X : Type 0} (left rest : List X) (x : X) (ps : List Place) (i : ℕ) (p : Place) (cells : List Cell) (out whole : List X) → left ≡ rest ++ x ∷ [] → i ≡ length rest → length left ≤ length ps → p ≡ get_or ps i p → p ≡ Depends cells →
-    independent_in left (take (length left) ps) ++ reverse out ≡ whole → independent_in rest (take (length rest) ps) ++ reverse out ≡ whole
-popped_skipped left rest x ps i p cells out whole e i_is short at is h =
+pub popped_pushed : {X : Type 0} (left rest : List X) (x : X) (ps : List Place) (i : ℕ) (p : Place) (out more whole : List X) → left ≡ rest ++ x ∷ [] → i ≡ length rest → length left ≤ length ps → p ≡ get_or ps i p →
+    more ≡ out ++ independent_in (x ∷ []) (p ∷ []) → independent_in left (take (length left) ps) ++ reverse out ≡ whole → independent_in rest (take (length rest) ps) ++ reverse more ≡ whole
+popped_pushed left rest x ps i p out more whole e i_is short at pushed h =
     let front : List _ = independent_in rest (take (length rest) ps) in
-    ap (λ zs. zs ++ reverse out) (sym (popped_more left rest x ps i p e i_is short at ∙ ap (λ q. front ++ independent_in (x ∷ []) (q ∷ [])) is ∙ append-nil front)) ∙ h
+    let own : List _ = independent_in (x ∷ []) (p ∷ []) in
+    ap (λ zs. front ++ reverse zs) pushed ∙ ap (λ zs. front ++ zs) (reverse-append out own ∙ ap (λ zs. zs ++ reverse out) (reverse_one x p)) ∙ sym (append_assoc front own (reverse out))
+    ∙ ap (λ zs. zs ++ reverse out) (sym (popped_more left rest x ps i p e i_is short at)) ∙ h
 
 -- ---- words with other places
 

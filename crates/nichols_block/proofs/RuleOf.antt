@@ -30,6 +30,10 @@ use Rattle.nichols_block.specs.Forms.{IsTable, AllShort}
 
 -- ---- the parts
 
+pub rule_degree : (braid : BraidValue) (m : ℕ) (rule : PlainRule) → IsRuleOf braid m rule → rule.degree ≡ m
+unfolding rule_of
+rule_degree braid m rule h = ap (λ (r : PlainRule). r.degree) h
+
 pub rule_basis : (braid : BraidValue) (m : ℕ) (rule : PlainRule) → IsRuleOf braid m rule → rule.basis ≡ basis is_killed braid m
 unfolding rule_of
 rule_basis braid m rule h = ap (λ (r : PlainRule). r.basis) h

@@ -48,19 +48,23 @@ independent_says : (vanishes : Vanishing) (braid : BraidValue) → IsField braid
 independent_says vanishes braid is m l ws s φ functionals rows entries i within none =
     independent_is_least vanishes braid is m l ws s φ functionals i within
     (λ cells below elements same.
-      none (cells, record {
+    none (
+      cells,
+      record {
         earlier = below;
         elements = elements;
         value = λ column. entries i column within ∙ same column ∙ sym (combined_as_weight braid.field rows ws φ entries cells (below_more i (length ws) within cells below) column);
-      }))
+      },
+    ))
 
 place_says : (vanishes : Vanishing) (braid : BraidValue) → IsField braid.field → (m : ℕ) → IsLinearTest braid.field (vanishes braid m) → (ws : List (List ℕ)) → IsSpanning vanishes braid m ws →
     (φ : ℕ → List ℕ → ℕ) → AreFunctionals braid.field (vanishes braid m) ws φ → (rows : List (List Cell)) → HaveEntries braid.field rows ws φ → (places : List Place) → ((i : ℕ) → i < length ws → IsPlace braid.field rows places i (place_at places i)) →
     (i : ℕ) → i < length ws → (p : Place) → IsPlace braid.field rows places i p → IsSaid vanishes braid m ws (word_at ws i) p
 place_says vanishes braid is m l ws s φ functionals rows entries places each i within Independent h = independent_says vanishes braid is m l ws s φ functionals rows entries i within h
-place_says vanishes braid is m l ws s φ functionals rows entries places each i within (Depends cells) h =
-    (dependent_is_not_least vanishes braid is m l ws s φ functionals i within cells h.combination.earlier same,
-    form_by_rows vanishes braid is m l ws s φ functionals i within cells h.combination.earlier h.combination.elements h.shape.nonzero (rising_positions cells h.shape.rising) (all_least cells h.combination.earlier h.independent) same)
+place_says vanishes braid is m l ws s φ functionals rows entries places each i within (Depends cells) h = (
+  dependent_is_not_least vanishes braid is m l ws s φ functionals i within cells h.combination.earlier same,
+  form_by_rows vanishes braid is m l ws s φ functionals i within cells h.combination.earlier h.combination.elements h.shape.nonzero (rising_positions cells h.shape.rising) (all_least cells h.combination.earlier h.independent) same,
+)
   where
     same : (column : ℕ) → φ column (word_at ws i) ≡ weight braid.field (φ column) (made ws cells)
     same column = sym (entries i column within) ∙ h.combination.value column ∙ combined_as_weight braid.field rows ws φ entries cells (below_more i (length ws) within cells h.combination.earlier) column
@@ -68,10 +72,11 @@ place_says vanishes braid is m l ws s φ functionals rows entries places each i 
     all_least : (ds : List Cell) → AllBelow i ds → AllIndependent places ds → AllCellsLeast vanishes braid ws ds
     all_least [] below independent = tt
     all_least (d ∷ ds) below independent =
-        let inside : d.column < length ws = omega (arith, below.0) in
-        (independent_says vanishes braid is m l ws s φ functionals rows entries d.column inside
-        (place_independent braid.field rows places d.column (place_at places d.column) independent.0 (each d.column inside)),
-        all_least ds below.1 independent.1)
+        let inside : d.column < length ws = omega (arith, below.0) in (
+          independent_says vanishes braid is m l ws s φ functionals rows entries d.column inside
+              (place_independent braid.field rows places d.column (place_at places d.column) independent.0 (each d.column inside)),
+          all_least ds below.1 independent.1,
+        )
 
 -- ---- all of them
 

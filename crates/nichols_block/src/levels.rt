@@ -85,7 +85,8 @@ impl Levels {
     /// The rule of a degree up to the last one.
     pub fn rule(&self, m: u32) -> &DegreeRule
         requires { m ≤ self.now.last }
-        ensures { IsRuleOf self.now.braid m result.now }
+        ensures rule { IsRuleOf self.now.braid m result.now }
+        ensures degree { result.now.degree ≡ m }
     {
         &self.rules[m as usize]
     }

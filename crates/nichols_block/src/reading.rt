@@ -1,6 +1,6 @@
 //! What the places of the candidates' rows say: which candidates are least, and the normal forms of the others.
 
-ghost use Rattle.std.specs.Prelude.{◌≡◌, IfOk, length};
+ghost use Rattle.std.specs.Prelude.{◌≡◌, ◌++◌, ◌∷◌, IfOk, OnOk, [], length};
 ghost use Rattle.std.specs.List.{AllByRecursion};
 ghost use Rattle.nichols_tensor.specs.WordOrder.{IsRising};
 ghost use Rattle.nichols_braid.specs.Rows.{made};
@@ -68,6 +68,20 @@ pub(crate) fn least_words(
     Ok(out)
 }
 
+/// Puts derivatives behind others where the place of their word is independent.
+fn push_least(
+    out: &mut Vec<Derivatives>,
+    own: Derivatives,
+    place: &Place,
+) -> Result<(), AllocError>
+    ensures { OnOk result (out.new.items ≡ out.old.items ++ independent_in (own ∷ []) (place.now ∷ [])) }
+{
+    if let Place::Independent = place {
+        out.push(own)?;
+    }
+    Ok(())
+}
+
 /// The derivatives of the words whose rows are independent.
 pub(crate) fn least_derivatives(
     alloc: Global,
@@ -80,9 +94,8 @@ pub(crate) fn least_derivatives(
     let mut left = derivs;
     let mut out = Vec::new(alloc);
     while let Some(own) = left.pop() {
-        if let Place::Independent = &places[left.len()] {
-            out.push(own)?;
-        }
+        let place = &places[left.len()];
+        push_least(&mut out, own, place)?;
     }
     out.reverse();
     Ok(out)

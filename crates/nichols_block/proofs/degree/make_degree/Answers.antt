@@ -105,4 +105,3 @@ returns c =
     (c.in_ok-basis.ensures ∙ ap₂ independent_in c.as_slice-listed.ensures.value c.as_slice-found.ensures.value)
     (c.in_ok-derivs.ensures ∙ ap (independent_in c.in_ok-all.all.items) c.as_slice-found.ensures.value)
     (c.in_ok-table.ensures ∙ ap₂ (λ ws ps. dependent_in ws ws ps) c.as_slice-listed.ensures.value c.as_slice-found.ensures.value)
-
