@@ -40,8 +40,8 @@ fn within_degrees(number: Option<u32>) -> Option<u32>
     ensures { result ≡ within_degrees number }
 {
     match number {
-        Some(n) => { if n <= DEGREE_MOST { Some(n) } else { None } }
-        None => None,
+        Some(n) if n <= DEGREE_MOST => Some(n),
+        _ => None,
     }
 }
 

@@ -8,3 +8,6 @@ mod report;
 mod top;
 
 pub use top::run;
+
+#[cfg(test)]
+mod tests;

@@ -16,11 +16,11 @@ returns-then-last-self-clause-end c =
     end_limited c.self.inside.levels.braid c.self.inside.degree_limit c.self.inside.levels.last (c.self.invariant.going (ap (λ g. g.ended) c.self.view_is ∙ c.requires)) (let v = c.last-last.ensures.value in omega (arith, v, c.if-last-self.true))
 
 pub make_degree-requires-clause-rule : goal.make_degree-requires-clause-rule
-make_degree-requires-clause-rule c = same_rule c.self.inside.levels.braid c.braid.result.now c.last-last.result c.rule.result.now (sym c.braid.ensures) c.rule.ensures
+make_degree-requires-clause-rule c = same_rule c.self.inside.levels.braid c.braid.result.now c.last-last.result c.rule.result.now (sym c.braid.ensures) c.rule.ensures.rule
 
 pub make_degree-requires-clause-degree : goal.make_degree-requires-clause-degree
 make_degree-requires-clause-degree c =
-    let d = rule_degree c.self.inside.levels.braid c.last-last.result c.rule.result.now c.rule.ensures in
+    let d = rule_degree c.self.inside.levels.braid c.last-last.result c.rule.result.now c.rule.ensures.rule in
     let v = c.last-last.ensures.value in
     let w = c.self.invariant.within in
     let m = c.self.invariant.most in
@@ -28,7 +28,7 @@ make_degree-requires-clause-degree c =
 
 pub push-requires-clause-next : goal.push-requires-clause-next
 push-requires-clause-next c =
-    next_rule c.self.inside.levels.braid c.braid.result.now c.last-last.result c.rule.result.now c.in_ok-rule.rule (sym c.braid.ensures) c.rule.ensures c.in_ok-rule.ensures
+    next_rule c.self.inside.levels.braid c.braid.result.now c.last-last.result c.rule.result.now c.in_ok-rule.rule (sym c.braid.ensures) c.rule.ensures.rule c.in_ok-rule.ensures
     ∙ ap (λ n. rule_of c.self.inside.levels.braid (suc n)) c.last-last.ensures.value
 
 pub invariant_of-self-2 : goal.invariant_of-self-2
