@@ -76,7 +76,11 @@ sum_bound bound (x ∷ xs) h =
     let all : sum (x ∷ xs) ≡ x + sum xs = sum_by-cons (λ d. d) x xs in
     omega arith
 
-pub sum_fits : (xs : List ℕ) → length xs ≤ 61 → AllByRecursion (λ d. d < 2 ^ 32) xs → sum xs < 2 ^ 64
+pub sum_fits : (xs : List ℕ) → length xs ≤ 61 → AllByRecursion (λ d. d < 2 ^ 57) xs → sum xs < 2 ^ 64
 sum_fits xs few h =
-    let s : sum xs ≤ length xs * 4294967296 = sum_bound 4294967296 xs h in
+    let s : sum xs ≤ length xs * 144115188075855872 = sum_bound 144115188075855872 xs h in
     omega arith
+
+-- a degree with a dimension other than 0 isn't empty
+pub filled : (braid : BraidValue) (m size : ℕ) → size ≡ dimension is_in_kernel braid m → 0 < size → is_empty_degree is_in_kernel braid m ≡ false
+filled braid m size e some = subst (λ d. nat_eq d 0 ≡ false) e (let s : nat_eq size 0 ≡ false = grind (arith, nat_tests) in s)

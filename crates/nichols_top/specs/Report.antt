@@ -1,6 +1,8 @@
 -- The report that is due for a command line and a document.
-use Rattle.std.specs.Prelude.{ℕ, suc, ◌-◌, Bool, false, ◌&&◌, List, [], ◌∷◌, ◌++◌, map, length, sum, codes, Option, None, Some, Result, Ok, Err, if◌then◌else◌, nat_lt}
+use Rattle.std.specs.Prelude.{ℕ, suc, ◌-◌, Bool, false, ◌&&◌, List, [], ◌∷◌, ◌++◌, map, length, sum, codes, Option, None, Some, Result, Ok, Err, if◌then◌else◌, nat_lt, nat_le, ◌+◌, ◌*◌}
 use Rattle.std.specs.Str.{bytes_eq}
+use Rattle.std.specs.List.{fold, list_all}
+use Rattle.std.specs.Char.{is_ascii_digit}
 use Rattle.nichols_braid.specs.Braid.{BraidValue}
 use Rattle.nichols_braid.specs.Kernel.{is_in_kernel}
 use Rattle.nichols_braid.specs.Least.{basis, relations}
@@ -52,14 +54,31 @@ algebra_due braid limit = record { pieces = pieces_due braid limit; status = if 
 
 -- ---- the command line and the document
 
--- a degree limit as it is written
-abbrev pub small_number : List ℕ → Option ℕ
-small_number text =
-    if bytes_eq text (codes "0") then Some 0 else (if bytes_eq text (codes "1") then Some 1 else (if bytes_eq text (codes "2") then Some 2 else None))
+-- the number that some digits write
+unfoldable pub digits_value : List ℕ → ℕ
+digits_value text = fold (λ n c. n * 10 + (c - 48)) 0 text
 
--- the degree limit of a command line: `algebra --degree` with 0, 1 or 2; no other line is accepted
+-- whether a text is 1 to 9 ASCII digits
+abbrev pub is_short_number : List ℕ → Bool
+is_short_number text = nat_le 1 (length text) && nat_le (length text) 9 && list_all is_ascii_digit text
+
+-- the number that 1 to 9 ASCII digits write
+abbrev pub short_number : List ℕ → Option ℕ
+short_number text = if is_short_number text then Some (digits_value text) else None
+
+-- the greatest degree limit
+abbrev pub most_degrees : ℕ
+most_degrees = 60
+
+-- a degree limit, where the number is one
+abbrev pub within_degrees : Option ℕ → Option ℕ
+within_degrees None = None
+within_degrees (Some n) = if nat_le n most_degrees then Some n else None
+
+-- the degree limit of a command line: `algebra` alone, or with `--degree` and a limit; no other line is accepted
 unfoldable pub degree_limit : List (List ℕ) → Option ℕ
-degree_limit (command ∷ option ∷ number ∷ []) = if bytes_eq command (codes "algebra") && bytes_eq option (codes "--degree") then small_number number else None
+degree_limit (command ∷ []) = if bytes_eq command (codes "algebra") then Some 12 else None
+degree_limit (command ∷ option ∷ number ∷ []) = if bytes_eq command (codes "algebra") && bytes_eq option (codes "--degree") then within_degrees (short_number number) else None
 degree_limit _ = None
 
 -- the most bytes of a document

@@ -5,3 +5,6 @@ mod command;
 mod degrees;
 mod output;
 mod report;
+mod top;
+
+pub use top::run;

@@ -7,9 +7,10 @@ ghost use Rattle.nichols_top.specs.Ends.{EndsAs, last_degree};
 ghost use Rattle.nichols_top.specs.Output.{PutsEnd};
 ghost use Rattle.nichols_text.specs.Pieces.{end_piece};
 
-use crate::degrees::make_degree;
+use crate::degrees::reach;
 use crate::output::{put_memory, put_piece};
 use nichols_braid::Braid;
+use nichols_graded::Graded;
 use nichols_io::Sink;
 use nichols_text::{EndLine, end_text, header_text};
 use std::alloc::Global;
@@ -18,18 +19,21 @@ use std::alloc::Global;
 const ROWS_LIMIT: u32 = 1024;
 
 /// Writes the report of a braid's algebra up to a degree limit: the header, each degree once it is done, and the end.
-pub(crate) fn put_report<K: Sink>(alloc: Global, braid: &Braid, limit: u32, sink: &mut K) -> u8
-    requires { limit ≤ 2 }
-    ensures ends { EndsAs (algebra_due braid.now limit) (K.taken sink.old) (K.taken sink.new) ⊥ (Rose (K.faults sink.old) (K.faults sink.new)) result }
+pub(crate) fn put_report<K: Sink>(alloc: Global, braid: Braid, limit: u32, sink: &mut K) -> u8
+    requires { limit ≤ 60 }
+    ensures ends { EndsAs (algebra_due braid limit) (K.taken sink.old) (K.taken sink.new) ⊥ (Rose (K.faults sink.old) (K.faults sink.new)) result }
     ensures count { K.faults sink.old ≤ K.faults sink.new }
 {
-    if let Err(status) = put_piece(sink, header_text(alloc, braid, limit, ROWS_LIMIT), None) {
+    if let Err(status) = put_piece(sink, header_text(alloc, &braid, limit, ROWS_LIMIT), None) {
         return status;
     }
+    let Ok(mut graded) = Graded::start(alloc, braid, limit) else {
+        return put_memory(sink, None);
+    };
     let mut dimensions = Vec::new(alloc);
     for m in 0..limit + 1 {
         let last = degree_before(m);
-        let Ok(degree) = make_degree(alloc, braid, m) else {
+        let Ok(degree) = reach(alloc, &mut graded, m) else {
             return put_memory(sink, last);
         };
         let Ok(()) = dimensions.push(degree.dimension) else {

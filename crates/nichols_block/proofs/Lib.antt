@@ -1,0 +1,10 @@
+pub mod Searching
+pub mod FormsOf
+pub mod Derived
+pub mod RuleOf
+pub mod RowShapes
+pub mod ReadingOf
+pub mod Functionals
+pub mod Split
+pub mod NextRule
+pub mod Lowest

@@ -1,0 +1,175 @@
+-- The rule of a degree from that of the degree below.
+use Rattle.std.proofs.Common.{◌≡◌, ℕ, zero, suc, ◌+◌, ◌*◌, ◌^◌, ◌<◌, ◌≤◌, List, [], ◌∷◌, ◌++◌, length, map, get_or, refl, sym, ◌∙◌, ap, ap₂, subst, arith, length-append}
+use Rattle.std.specs.List.{flat_map, AllByRecursion}
+use Rattle.std.proofs.lemmas.List.{length-map, get_or-map}
+use Rattle.nichols_field.specs.Field.{FieldValue, IsField}
+use Rattle.nichols_tensor.specs.Members.{IsIn}
+use Rattle.nichols_tensor.specs.Combination.{Combination, AllElements, AllAmong, single}
+use Rattle.nichols_tensor.specs.Positions.{word_at}
+use Rattle.nichols_tensor.specs.Words.{up_to, IsWordOver}
+use Rattle.nichols_tensor.specs.WordOrder.{IsRising}
+use Rattle.nichols_tensor.proofs.Letters.{from_up_to}
+use Rattle.nichols_braid.specs.Braid.{BraidValue, IsBraid, IsLetter}
+use Rattle.nichols_braid.specs.Kernel.{is_killed}
+use Rattle.nichols_braid.specs.Least.{PlainRelation, is_least, basis, candidates, relations}
+use Rattle.nichols_braid.specs.LeastLaws.{IsNormalForm}
+use Rattle.nichols_braid.proofs.BraidLaws.{killed_is_linear}
+use Rattle.nichols_braid.proofs.Lists.{all_from_in}
+use Rattle.nichols_braid.proofs.Rearranged.{up_to_length}
+use Rattle.nichols_braid.proofs.Reduction.{from_basis, basis_rises}
+use Rattle.nichols_braid.proofs.Candidates.{from_candidates, candidates_rise, candidates_next, with_letters, relations_are, least_of, relations_of}
+use Rattle.nichols_braid.proofs.Spanning.{basis_among}
+use Rattle.nichols_braid.proofs.LeastLaws.{killed_candidates_span}
+use Rattle.nichols_echelon.specs.Cells.{Cell, entry}
+use Rattle.nichols_echelon.specs.Cells.{AllElements as AllCellsElements}
+use Rattle.nichols_echelon.specs.Combination.{AllRowsElements, row_at}
+use Rattle.nichols_echelon.specs.Split.{IsSplit}
+use Rattle.nichols_echelon.specs.declared.rows.Place.{Place}
+use Rattle.nichols_echelon.proofs.Shapes.{all_append}
+use Rattle.nichols_block.specs.Rule.{PlainRule, derived_form, derived_forms, rule_of, IsRuleOf}
+use Rattle.nichols_block.specs.Rows.{form_cells, row_cells, IsFormOver}
+use Rattle.nichols_block.specs.Reading.{independent_in, dependent_in, IsInside}
+use Rattle.nichols_block.proofs.RuleOf.{derived_form_is_normal, rule_with, same_rule}
+use Rattle.nichols_block.proofs.Functionals.{row_number, rows_tell}
+use Rattle.nichols_block.proofs.Split.{IsSaid, AllSaid, HaveEntries, split_says, split_inside, least_are_independent, independent_in-map, relations_are_dependent}
+
+-- ---- the candidates
+
+pub basis_is_short : (braid : BraidValue) (m : ℕ) (us : List (List ℕ)) → us ≡ basis is_killed braid m → m < 60 → AllByRecursion (λ w. length w < 60) us
+basis_is_short braid m us e less =
+    subst (AllByRecursion (λ w. length w < 60)) (sym e)
+    (all_from_in (λ w. length w < 60) (basis is_killed braid m) (λ w i. let size : length w ≡ m = (from_basis is_killed braid m w i).0 in omega arith))
+
+pub basis_is_rising : (braid : BraidValue) (m : ℕ) (us : List (List ℕ)) → us ≡ basis is_killed braid m → IsRising us
+basis_is_rising braid m us e = subst IsRising (sym e) (basis_rises is_killed braid m)
+
+pub words_are_candidates : (braid : BraidValue) (m : ℕ) (us words : List (List ℕ)) (n : ℕ) → us ≡ basis is_killed braid m → n ≡ braid.letters → words ≡ flat_map (λ u. map (λ b. u ++ b ∷ []) (up_to n)) us → words ≡ candidates is_killed braid (suc m)
+words_are_candidates braid m us words n e letters h = h ∙ ap₂ (λ l vs. with_letters l vs) letters e ∙ sym (candidates_next is_killed braid m)
+
+with_letters_length : (n : ℕ) (us : List (List ℕ)) → length (with_letters n us) ≡ n * length us
+with_letters_length n [] = let e : ◌≡◌ {A = ℕ} 0 (n * 0) = omega arith in e
+with_letters_length n (u ∷ us) =
+    let e : n + n * length us ≡ n * suc (length us) = omega arith in
+    length-append (map (λ b. u ++ b ∷ []) (up_to n)) (with_letters n us) ∙ ap₂ (λ a b. a + b) (length-map (up_to n) (λ b. u ++ b ∷ []) ∙ up_to_length n) (with_letters_length n us) ∙ e
+
+-- ---- their rows
+
+forms_over : (braid : BraidValue) → IsBraid braid → (m : ℕ) (w : List ℕ) → IsIn w (candidates is_killed braid (suc m)) → AllByRecursion (IsFormOver (basis is_killed braid m)) (derived_forms braid (suc m) w)
+unfolding derived_forms
+forms_over braid is m w i = each (up_to braid.letters) (λ a j. from_up_to braid.letters a j)
+  where
+    own : (length w ≡ suc m) × IsWordOver braid.letters w
+    own = from_candidates is_killed braid (suc m) w i
+
+    one : (a : ℕ) → IsLetter braid a → IsFormOver (basis is_killed braid m) (derived_form braid (suc m) w a)
+    one a letter = let n : IsNormalForm is_killed braid m _ (derived_form braid (suc m) w a) = derived_form_is_normal braid is m w a own.0 own.1 letter in record { among = n.least; ordered = n.ordered }
+
+    mapped : (bs : List ℕ) → AllByRecursion (λ a. IsLetter braid a) bs → AllByRecursion (IsFormOver (basis is_killed braid m)) (map (derived_form braid (suc m) w) bs)
+    mapped [] h = tt
+    mapped (a ∷ bs) h = (one a h.0, mapped bs h.1)
+
+    each : (bs : List ℕ) → ((a : ℕ) → IsIn a bs → IsLetter braid a) → AllByRecursion (IsFormOver (basis is_killed braid m)) (map (derived_form braid (suc m) w) bs)
+    each bs h = mapped bs (all_from_in (λ a. IsLetter braid a) bs h)
+
+all_mapped : {X Y : Type 0} (P : Y → Type 0) (f : X → Y) (xs : List X) → ((x : X) → IsIn x xs → P (f x)) → AllByRecursion P (map f xs)
+all_mapped P f xs h = go xs (all_from_in (λ x. P (f x)) xs h)
+  where
+    go : (ys : List _) → AllByRecursion (λ y. P (f y)) ys → AllByRecursion P (map f ys)
+    go [] g = tt
+    go (y ∷ ys) g = (g.0, go ys g.1)
+
+pub all_forms_over : (braid : BraidValue) → IsBraid braid → (m : ℕ) (us : List (List ℕ)) (derivs : List (List Combination)) → us ≡ basis is_killed braid m → derivs ≡ map (derived_forms braid (suc m)) (candidates is_killed braid (suc m)) →
+    AllByRecursion (λ forms. AllByRecursion (IsFormOver us) forms) derivs
+all_forms_over braid is m us derivs e d =
+    subst (λ vs. AllByRecursion (λ forms. AllByRecursion (IsFormOver vs) forms) derivs) (sym e)
+    (subst (AllByRecursion (λ forms. AllByRecursion (IsFormOver (basis is_killed braid m)) forms)) (sym d)
+    (all_mapped (λ forms. AllByRecursion (IsFormOver (basis is_killed braid m)) forms) (derived_forms braid (suc m)) (candidates is_killed braid (suc m)) (forms_over braid is m)))
+
+forms_count : (braid : BraidValue) (m : ℕ) (w : List ℕ) → length (derived_forms braid m w) ≡ braid.letters
+unfolding derived_forms
+forms_count braid m w = length-map (up_to braid.letters) (derived_form braid m w) ∙ up_to_length braid.letters
+
+pub all_forms_fit : (braid : BraidValue) (m : ℕ) (us words : List (List ℕ)) (derivs : List (List Combination)) → us ≡ basis is_killed braid m → words ≡ candidates is_killed braid (suc m) → derivs ≡ map (derived_forms braid (suc m)) (candidates is_killed braid (suc m)) →
+    length words < 2 ^ 32 → AllByRecursion (λ forms. length forms * length us ≤ 2 ^ 32) derivs
+all_forms_fit braid m us words derivs e w d less =
+    subst (AllByRecursion (λ forms. length forms * length us ≤ 2 ^ 32)) (sym d)
+    (all_mapped (λ forms. length forms * length us ≤ 2 ^ 32) (derived_forms braid (suc m)) (candidates is_killed braid (suc m)) (λ v i. subst (λ n. n * length us ≤ 2 ^ 32) (sym (forms_count braid (suc m) v)) (omega (arith, count))))
+  where
+    count : length words ≡ braid.letters * length us
+    count = ap length (w ∙ candidates_next is_killed braid m) ∙ with_letters_length braid.letters (basis is_killed braid m) ∙ ap (λ vs. braid.letters * length vs) (sym e)
+
+form_cells_elements : (k : FieldValue) (ws : List (List ℕ)) (offset : ℕ) (f : Combination) → AllElements k f → AllCellsElements k (form_cells ws offset f)
+form_cells_elements k ws offset [] h = tt
+form_cells_elements k ws offset (t ∷ f) h = (h.0, form_cells_elements k ws offset f h.1)
+
+row_cells_elements : (k : FieldValue) (ws : List (List ℕ)) (offset : ℕ) (forms : List Combination) → AllByRecursion (λ f. AllElements k f) forms → AllCellsElements k (row_cells ws offset forms)
+row_cells_elements k ws offset [] h = tt
+row_cells_elements k ws offset (f ∷ forms) h =
+    all_append _ (form_cells ws offset f) (row_cells ws (offset + length ws) forms) (form_cells_elements k ws offset f h.0) (row_cells_elements k ws (offset + length ws) forms h.1)
+
+forms_elements : (braid : BraidValue) → IsBraid braid → (m : ℕ) (w : List ℕ) → IsIn w (candidates is_killed braid (suc m)) → AllByRecursion (λ f. AllElements braid.field f) (derived_forms braid (suc m) w)
+unfolding derived_forms
+forms_elements braid is m w i =
+    all_mapped (λ f. AllElements braid.field f) (derived_form braid (suc m) w) (up_to braid.letters)
+    (λ a j.
+    let own : (length w ≡ suc m) × IsWordOver braid.letters w = from_candidates is_killed braid (suc m) w i in
+    (derived_form_is_normal braid is m w a own.0 own.1 (from_up_to braid.letters a j)).elements)
+
+-- the rows that the candidates have
+abbrev pub AreRowsOf : BraidValue → ℕ → List (List Cell) → Type 0
+AreRowsOf braid m rows = rows ≡ map (λ w. row_cells (basis is_killed braid m) 0 (derived_forms braid (suc m) w)) (candidates is_killed braid (suc m))
+
+map_twice : {X Y Z : Type 0} (g : Y → Z) (f : X → Y) (xs : List X) → map g (map f xs) ≡ map (λ x. g (f x)) xs
+map_twice g f [] = refl
+map_twice g f (x ∷ xs) = ap (λ zs. g (f x) ∷ zs) (map_twice g f xs)
+
+pub rows_are : (braid : BraidValue) (m : ℕ) (us : List (List ℕ)) (derivs : List (List Combination)) (rows : List (List Cell)) → us ≡ basis is_killed braid m → derivs ≡ map (derived_forms braid (suc m)) (candidates is_killed braid (suc m)) →
+    rows ≡ map (row_cells us 0) derivs → AreRowsOf braid m rows
+rows_are braid m us derivs rows e d h =
+    h ∙ ap₂ (λ vs ds. map (row_cells vs 0) ds) e d ∙ map_twice (row_cells (basis is_killed braid m) 0) (derived_forms braid (suc m)) (candidates is_killed braid (suc m))
+
+pub rows_have_elements : (braid : BraidValue) → IsBraid braid → (m : ℕ) (rows : List (List Cell)) → AreRowsOf braid m rows → AllRowsElements braid.field rows
+rows_have_elements braid is m rows h =
+    subst (AllRowsElements braid.field) (sym h)
+    (all_mapped (λ row. AllCellsElements braid.field row) (λ w. row_cells (basis is_killed braid m) 0 (derived_forms braid (suc m) w)) (candidates is_killed braid (suc m))
+    (λ w i. row_cells_elements braid.field (basis is_killed braid m) 0 (derived_forms braid (suc m) w) (forms_elements braid is m w i)))
+
+pub rows_count : (braid : BraidValue) (m : ℕ) (words : List (List ℕ)) (rows : List (List Cell)) → words ≡ candidates is_killed braid (suc m) → AreRowsOf braid m rows → length rows ≡ length words
+rows_count braid m words rows w h = ap length h ∙ length-map (candidates is_killed braid (suc m)) (λ v. row_cells (basis is_killed braid m) 0 (derived_forms braid (suc m) v)) ∙ ap length (sym w)
+
+rows_have_entries : (braid : BraidValue) (m : ℕ) (rows : List (List Cell)) → AreRowsOf braid m rows → HaveEntries braid.field rows (candidates is_killed braid (suc m)) (row_number braid m)
+rows_have_entries braid m rows h i column within =
+    ap (λ rs. entry braid.field (row_at rs i) column) h
+    ∙ ap (λ (row : List Cell). entry braid.field row column) (get_or-map (λ w. row_cells (basis is_killed braid m) 0 (derived_forms braid (suc m) w)) (candidates is_killed braid (suc m)) i [] [] within)
+
+-- ---- what the places say
+
+said : (braid : BraidValue) → IsBraid braid → (m : ℕ) (rows : List (List Cell)) (places : List Place) → AreRowsOf braid m rows → IsSplit braid.field rows places →
+    AllSaid (IsSaid is_killed braid (suc m) (candidates is_killed braid (suc m))) (candidates is_killed braid (suc m)) places
+said braid is m rows places h split =
+    split_says is_killed braid is.field (suc m) (killed_is_linear braid is (suc m)) (candidates is_killed braid (suc m)) (killed_candidates_span braid is (suc m)) (row_number braid m) (rows_tell braid is m) rows
+    (rows_count braid m (candidates is_killed braid (suc m)) rows refl h) (rows_have_entries braid m rows h) places split
+
+least_read : (braid : BraidValue) → IsBraid braid → (m : ℕ) (rows : List (List Cell)) (places : List Place) → AreRowsOf braid m rows → IsSplit braid.field rows places → independent_in (candidates is_killed braid (suc m)) places ≡ basis is_killed braid (suc m)
+least_read braid is m rows places h split =
+    least_are_independent is_killed braid (suc m) (candidates is_killed braid (suc m)) (candidates is_killed braid (suc m)) places (said braid is m rows places h split)
+    ∙ sym (basis_among is_killed braid is.field (suc m) (killed_is_linear braid is (suc m)) (candidates is_killed braid (suc m)) (killed_candidates_span braid is (suc m)))
+
+pub places_inside : (k : FieldValue) (rows : List (List Cell)) (words : List (List ℕ)) (places : List Place) → length rows ≡ length words → IsSplit k rows places → AllByRecursion (IsInside (length words)) places
+places_inside k rows words places e split = subst (λ n. AllByRecursion (IsInside n) places) e (split_inside k rows places split)
+
+pub words_rise : (braid : BraidValue) (m : ℕ) (words : List (List ℕ)) → words ≡ candidates is_killed braid (suc m) → IsRising words
+words_rise braid m words e = subst IsRising (sym e) (candidates_rise is_killed braid (suc m))
+
+-- what is read off is the next rule
+pub next_rule : (braid : BraidValue) → IsBraid braid → (m : ℕ) (words : List (List ℕ)) (derivs : List (List Combination)) (rows : List (List Cell)) (places : List Place) (d : ℕ) (us : List (List ℕ)) (ds : List (List Combination)) (ts : List PlainRelation) →
+    words ≡ candidates is_killed braid (suc m) → derivs ≡ map (derived_forms braid (suc m)) (candidates is_killed braid (suc m)) → AreRowsOf braid m rows → IsSplit braid.field rows places → d ≡ m + 1 →
+    us ≡ independent_in words places → ds ≡ independent_in derivs places → ts ≡ dependent_in words words places → IsRuleOf braid (suc m) (record { degree = d; basis = us; derivs = ds; table = ts })
+unfolding rule_of rule_with
+next_rule braid is m words derivs rows places d us ds ts w v h split degree u e t =
+    let cs : List (List ℕ) = candidates is_killed braid (suc m) in
+    let one : m + 1 ≡ suc m = omega arith in
+    let least : us ≡ basis is_killed braid (suc m) = u ∙ ap (λ xs. independent_in xs places) w ∙ least_read braid is m rows places h split in
+    same_rule d (suc m) us (basis is_killed braid (suc m)) ds (map (derived_forms braid (suc m)) (basis is_killed braid (suc m))) ts (relations is_killed braid (suc m)) (degree ∙ one) least
+    (e ∙ ap (λ xs. independent_in xs places) v ∙ independent_in-map (derived_forms braid (suc m)) cs places ∙ ap (map (derived_forms braid (suc m))) (least_read braid is m rows places h split))
+    (t ∙ ap (λ xs. dependent_in xs xs places) w ∙ relations_are_dependent is_killed braid (suc m) cs cs places (said braid is m rows places h split) ∙ sym (relations_are is_killed braid (suc m)))

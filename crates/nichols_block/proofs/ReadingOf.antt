@@ -1,0 +1,123 @@
+-- What the loops over places put together.
+use Rattle.std.proofs.Common.{◌≡◌, ◌≢◌, ℕ, zero, suc, ◌+◌, ◌<◌, ◌≤◌, List, [], ◌∷◌, ◌++◌, length, map, get_or, take, reverse, refl, sym, ◌∙◌, ap, ap₂, subst, arith, append_assoc, length-append}
+use Rattle.std.specs.List.{AllByRecursion}
+use Rattle.std.proofs.lemmas.List.{take_more, take_all, append-nil, get_or_read, reverse-append}
+use Rattle.nichols_tensor.specs.Combination.{Combination}
+use Rattle.nichols_tensor.specs.WordOrder.{IsRising, IsOrdered}
+use Rattle.nichols_tensor.specs.Positions.{word_at}
+use Rattle.nichols_braid.specs.Least.{PlainRelation}
+use Rattle.nichols_braid.specs.Rows.{made, AreRising}
+use Rattle.nichols_braid.specs.Rows.{columns_of as positions_of}
+use Rattle.nichols_braid.proofs.Rows.{made_rises, made_nonzero}
+use Rattle.nichols_echelon.specs.Cells.{Cell, IsRow, IsRising as AreColumnsRising, columns_of, AllBelow}
+use Rattle.nichols_echelon.specs.declared.rows.Place.{Place}
+use Rattle.nichols_echelon.specs.declared.rows.Place.TheVariants.{Independent, Depends}
+use Rattle.nichols_block.specs.Reading.{independent_in, dependent_in, IsInside}
+
+-- ---- combinations at positions
+
+pub rising_positions : (cells : List Cell) → AreColumnsRising (columns_of cells) → AreRising (positions_of cells)
+rising_positions [] h = tt
+rising_positions (c ∷ []) h = (tt, tt)
+rising_positions (c ∷ d ∷ cells) h = (h.0, rising_positions (d ∷ cells) h.1)
+
+pub made_is_ordered : (ws : List (List ℕ)) → IsRising ws → (cells : List Cell) → IsRow cells → AllBelow (length ws) cells → IsOrdered (made ws cells)
+made_is_ordered ws rising cells shape below = record {
+  rising = made_rises ws rising cells below (rising_positions cells shape.rising);
+  nonzero = made_nonzero ws cells shape.nonzero;
+}
+
+pub form_is_ordered : (ws : List (List ℕ)) → IsRising ws → (cells : List Cell) (i : ℕ) (f : List _) → IsRow cells → AllBelow (length ws) cells → length cells ≤ i → f ≡ made ws (take i cells) → IsOrdered f
+form_is_ordered ws rising cells i f shape below past e = subst IsOrdered (sym (e ∙ ap (made ws) (take_all i cells past))) (made_is_ordered ws rising cells shape below)
+
+-- ---- entries with independent places
+
+independent_in-push : {X : Type 0} (xs : List X) (x : X) (ps : List Place) (p : Place) → length ps ≡ length xs → independent_in (xs ++ x ∷ []) (ps ++ p ∷ []) ≡ independent_in xs ps ++ independent_in (x ∷ []) (p ∷ [])
+independent_in-push [] x [] p e = refl
+independent_in-push [] x (q ∷ ps) p e = absurd (omega arith)
+independent_in-push (y ∷ xs) x [] p e = absurd (omega arith)
+independent_in-push (y ∷ xs) x (Independent ∷ ps) p e = ap (λ zs. y ∷ zs) (independent_in-push xs x ps p (omega arith))
+independent_in-push (y ∷ xs) x (Depends cells ∷ ps) p e = independent_in-push xs x ps p (omega arith)
+
+length_front : {X : Type 0} (xs : List X) (k : ℕ) → k ≤ length xs → length (take k xs) ≡ k
+length_front xs zero less = refl
+length_front [] (suc k) less = absurd (omega arith)
+length_front (x ∷ xs) (suc k) less = ap suc (length_front xs k (omega arith))
+
+independent_more : {X : Type 0} (xs : List X) (ps : List Place) (k : ℕ) (x : X) (p : Place) → length ps ≡ length xs → k < length xs →
+    independent_in (take (k + 1) xs) (take (k + 1) ps) ≡ independent_in (take k xs) (take k ps) ++ independent_in (get_or xs k x ∷ []) (get_or ps k p ∷ [])
+independent_more xs ps k x p e less =
+    let less_ps : k < length ps = omega arith in
+    ap₂ independent_in (take_more xs k x less) (take_more ps k p less_ps)
+    ∙ independent_in-push (take k xs) (get_or xs k x) (take k ps) (get_or ps k p) (length_front ps k (omega arith) ∙ sym (length_front xs k (omega arith)))
+
+pub kept_more : {X : Type 0} (xs : List X) (ps : List Place) (k : ℕ) (x : X) (p : Place) (out more : List X) → length ps ≡ length xs → k < length xs → x ≡ get_or xs k x → p ≡ get_or ps k p → p ≡ Independent →
+    out ≡ independent_in (take k xs) (take k ps) → more ≡ out ++ x ∷ [] → more ≡ independent_in (take (k + 1) xs) (take (k + 1) ps)
+kept_more xs ps k x p out more e less x_at p_at is before pushed =
+    pushed ∙ ap (λ zs. zs ++ x ∷ []) before
+    ∙ sym (independent_more xs ps k x p e less ∙ ap₂ (λ y q. independent_in (take k xs) (take k ps) ++ independent_in (y ∷ []) (q ∷ [])) (sym x_at) (sym p_at ∙ is))
+
+pub skipped_more : {X : Type 0} (xs : List X) (ps : List Place) (k : ℕ) (d : X) (p : Place) (cells : List Cell) (out more : List X) → length ps ≡ length xs → k < length xs → p ≡ get_or ps k p → p ≡ Depends cells →
+    out ≡ independent_in (take k xs) (take k ps) → more ≡ out → more ≡ independent_in (take (k + 1) xs) (take (k + 1) ps)
+skipped_more xs ps k d p cells out more e less p_at is before same =
+    same ∙ before
+    ∙ sym (independent_more xs ps k d p e less ∙ ap (λ q. independent_in (take k xs) (take k ps) ++ independent_in (get_or xs k d ∷ []) (q ∷ [])) (sym p_at ∙ is) ∙ append-nil (independent_in (take k xs) (take k ps)))
+
+-- ---- from the end
+
+popped_more : {X : Type 0} (left rest : List X) (x : X) (ps : List Place) (i : ℕ) (p : Place) → left ≡ rest ++ x ∷ [] → i ≡ length rest → length left ≤ length ps → p ≡ get_or ps i p →
+    independent_in left (take (length left) ps) ≡ independent_in rest (take (length rest) ps) ++ independent_in (x ∷ []) (p ∷ [])
+popped_more left rest x ps i p e i_is short at =
+    let longer : length left ≡ length rest + 1 = ap length e ∙ length-append rest (x ∷ []) in
+    let less : length rest < length ps = omega arith in
+    ap₂ (λ xs n. independent_in xs (take n ps)) e longer
+    ∙ ap (independent_in (rest ++ x ∷ [])) (take_more ps (length rest) p less ∙ ap (λ q. take (length rest) ps ++ q ∷ []) (ap (λ j. get_or ps j p) (sym i_is) ∙ sym at))
+    ∙ independent_in-push rest x (take (length rest) ps) p (length_front ps (length rest) (omega arith))
+
+pub popped_short : {X : Type 0} (left rest : List X) (x : X) (ps : List Place) → left ≡ rest ++ x ∷ [] → length left ≤ length ps → length rest ≤ length ps
+popped_short left rest x ps e short = let longer : length left ≡ length rest + 1 = ap length e ∙ length-append rest (x ∷ []) in omega arith
+
+reverse_one : {X : Type 0} (x : X) (p : Place) → reverse (independent_in (x ∷ []) (p ∷ [])) ≡ independent_in (x ∷ []) (p ∷ [])
+reverse_one x Independent = refl
+reverse_one x (Depends cells) = refl
+
+pub popped_pushed : {X : Type 0} (left rest : List X) (x : X) (ps : List Place) (i : ℕ) (p : Place) (out more whole : List X) → left ≡ rest ++ x ∷ [] → i ≡ length rest → length left ≤ length ps → p ≡ get_or ps i p →
+    more ≡ out ++ independent_in (x ∷ []) (p ∷ []) → independent_in left (take (length left) ps) ++ reverse out ≡ whole → independent_in rest (take (length rest) ps) ++ reverse more ≡ whole
+popped_pushed left rest x ps i p out more whole e i_is short at pushed h =
+    let front : List _ = independent_in rest (take (length rest) ps) in
+    let own : List _ = independent_in (x ∷ []) (p ∷ []) in
+    ap (λ zs. front ++ reverse zs) pushed ∙ ap (λ zs. front ++ zs) (reverse-append out own ∙ ap (λ zs. zs ++ reverse out) (reverse_one x p)) ∙ sym (append_assoc front own (reverse out))
+    ∙ ap (λ zs. zs ++ reverse out) (sym (popped_more left rest x ps i p e i_is short at)) ∙ h
+
+-- ---- words with other places
+
+dependent_in-push : (all xs : List (List ℕ)) (x : List ℕ) (ps : List Place) (p : Place) → length ps ≡ length xs → dependent_in all (xs ++ x ∷ []) (ps ++ p ∷ []) ≡ dependent_in all xs ps ++ dependent_in all (x ∷ []) (p ∷ [])
+dependent_in-push all [] x [] p e = refl
+dependent_in-push all [] x (q ∷ ps) p e = absurd (omega arith)
+dependent_in-push all (y ∷ xs) x [] p e = absurd (omega arith)
+dependent_in-push all (y ∷ xs) x (Independent ∷ ps) p e = dependent_in-push all xs x ps p (omega arith)
+dependent_in-push all (y ∷ xs) x (Depends cells ∷ ps) p e = ap (λ (zs : List PlainRelation). record { candidate = y; form = made all cells } ∷ zs) (dependent_in-push all xs x ps p (omega arith))
+
+dependent_more : (all xs : List (List ℕ)) (ps : List Place) (k : ℕ) (p : Place) → length ps ≡ length xs → k < length xs →
+    dependent_in all (take (k + 1) xs) (take (k + 1) ps) ≡ dependent_in all (take k xs) (take k ps) ++ dependent_in all (word_at xs k ∷ []) (get_or ps k p ∷ [])
+dependent_more all xs ps k p e less =
+    let less_ps : k < length ps = omega arith in
+    ap₂ (dependent_in all) (take_more xs k [] less) (take_more ps k p less_ps)
+    ∙ dependent_in-push all (take k xs) (word_at xs k) (take k ps) (get_or ps k p) (length_front ps k (omega arith) ∙ sym (length_front xs k (omega arith)))
+
+pub related_more : (all xs : List (List ℕ)) (ps : List Place) (k : ℕ) (x : List ℕ) (p : Place) (cells : List Cell) (form : Combination) (out more : List PlainRelation) → length ps ≡ length xs → k < length xs → x ≡ get_or xs k x → p ≡ get_or ps k p → p ≡ Depends cells →
+    form ≡ made all cells → out ≡ dependent_in all (take k xs) (take k ps) → more ≡ out ++ record { candidate = x; form = form } ∷ [] → more ≡ dependent_in all (take (k + 1) xs) (take (k + 1) ps)
+related_more all xs ps k x p cells form out more e less x_at p_at is form_is before pushed =
+    pushed ∙ ap₂ (λ (zs : List PlainRelation) (f : Combination). zs ++ record { candidate = x; form = f } ∷ []) before form_is
+    ∙ sym (dependent_more all xs ps k p e less ∙ ap₂ (λ y q. dependent_in all (take k xs) (take k ps) ++ dependent_in all (y ∷ []) (q ∷ [])) (sym (get_or_read xs k x less x_at [])) (sym p_at ∙ is))
+
+pub unrelated_more : (all xs : List (List ℕ)) (ps : List Place) (k : ℕ) (p : Place) (out more : List PlainRelation) → length ps ≡ length xs → k < length xs → p ≡ get_or ps k p → p ≡ Independent →
+    out ≡ dependent_in all (take k xs) (take k ps) → more ≡ out → more ≡ dependent_in all (take (k + 1) xs) (take (k + 1) ps)
+unrelated_more all xs ps k p out more e less p_at is before same =
+    same ∙ before
+    ∙ sym (dependent_more all xs ps k p e less ∙ ap (λ q. dependent_in all (take k xs) (take k ps) ++ dependent_in all (word_at xs k ∷ []) (q ∷ [])) (sym p_at ∙ is) ∙ append-nil (dependent_in all (take k xs) (take k ps)))
+
+pub inside_at : (bound : ℕ) (ps : List Place) (k : ℕ) (p : Place) (cells : List Cell) → AllByRecursion (IsInside bound) ps → k < length ps → p ≡ get_or ps k p → p ≡ Depends cells → AllBelow bound cells
+inside_at bound [] k p cells h less at is = absurd (omega arith)
+inside_at bound (q ∷ ps) zero p cells h less at is = subst (IsInside bound) (sym at ∙ is) h.0
+inside_at bound (q ∷ ps) (suc k) p cells h less at is = inside_at bound ps k p cells h.1 (omega arith) at is

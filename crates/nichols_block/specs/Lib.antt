@@ -1,0 +1,5 @@
+pub mod Rule
+pub mod Forms
+pub mod Rows
+pub mod Reading
+pub mod Levels

@@ -1,0 +1,178 @@
+//! Derivatives of candidates, in normal form over the degree below.
+
+ghost use Rattle.std.specs.Prelude.{◌≡◌, ◌<◌, ◌++◌, ◌∷◌, IfOk, List, [], length, map, suc};
+ghost use Rattle.std.specs.Result.{OnOk};
+ghost use Rattle.nichols_field.specs.Field.{IsElement};
+ghost use Rattle.nichols_tensor.specs.Combination.{AllElements, HasSameValues, scaled};
+ghost use Rattle.nichols_tensor.specs.Members.{IsIn};
+ghost use Rattle.nichols_tensor.specs.WordOrder.{IsOrdered};
+ghost use Rattle.nichols_tensor.specs.Words.{IsLetterOf, up_to};
+ghost use Rattle.nichols_braid.specs.Braid.{IsLetter};
+ghost use Rattle.nichols_braid.specs.Kernel.{is_killed};
+ghost use Rattle.nichols_braid.specs.Least.{basis, candidates, relations};
+ghost use Rattle.nichols_block.specs.Forms.{AllShort, IsTable, derived_from, followed_form, form_in};
+ghost use Rattle.nichols_block.specs.Rule.{IsRuleOf, derived_forms};
+
+use crate::candidates::followed;
+use crate::rule::{DegreeRule, Derivatives};
+use nichols_braid::Braid;
+use nichols_field::Field;
+use nichols_words::{Comb, Relation, Word};
+use std::alloc::{AllocError, Global};
+
+/// A sum with a multiple of the form of a candidate: that of its relation, or the candidate itself where it has none.
+fn with_form(
+    alloc: Global,
+    field: Field,
+    total: &Comb,
+    by: u32,
+    table: &[Relation],
+    candidate: Word,
+) -> Result<Comb, AllocError>
+    requires factor { IsElement field by }
+    requires total { AllElements field total.now }
+    requires table { IsTable field table.now }
+    ensures value { IfOk result (λ r. HasSameValues field r (total.now ++ scaled field by (form_in table.now candidate))) }
+    ensures elements { IfOk result (AllElements field) }
+    ensures shape { IfOk result IsOrdered }
+{
+    let _modulus = field.modulus();
+    match table.binary_search_by_key(&candidate, |relation| relation.candidate) {
+        Ok(k) => {
+            let relation = &table[k];
+            total.add_scaled(alloc, field, by, &relation.form)
+        }
+        Err(_) => {
+            let itself = Comb::single(alloc, field, candidate, 1)?;
+            total.add_scaled(alloc, field, by, &itself)
+        }
+    }
+}
+
+/// A sum with a multiple of `f x_c` in normal form, where f is the form of a derivative.
+fn with_followed(
+    alloc: Global,
+    field: Field,
+    total: Comb,
+    by: u32,
+    table: &[Relation],
+    form: &Comb,
+    letter: u8,
+) -> Result<Comb, AllocError>
+    requires factor { IsElement field by }
+    requires total { AllElements field total }
+    requires total_shape { IsOrdered total }
+    requires table { IsTable field table.now }
+    requires form { AllElements field form.now }
+    requires short { AllShort form.now }
+    requires letter { IsLetterOf 24 letter }
+    ensures value { IfOk result (λ r. HasSameValues field r (total ++ scaled field by (followed_form field table.now form.now letter))) }
+    ensures elements { IfOk result (AllElements field) }
+    ensures shape { IfOk result IsOrdered }
+{
+    let _modulus = field.modulus();
+    let mut sum = total;
+    for term in form.terms() {
+        let factor = field.mul(by, term.coefficient);
+        let candidate = followed(term.word, letter);
+        sum = with_form(alloc, field, &sum, factor, table, candidate)?;
+    }
+    Ok(sum)
+}
+
+/// The normal form of the derivative by a of `u x_b`, from the form of that of u.
+fn derivative(
+    alloc: Global,
+    braid: &Braid,
+    table: &[Relation],
+    u: Word,
+    form: &Comb,
+    a: u8,
+    b: u8,
+) -> Result<Comb, AllocError>
+    requires table { IsTable braid.now.field table.now }
+    requires form { AllElements braid.now.field form.now }
+    requires short { AllShort form.now }
+    requires left { IsLetter braid.now a }
+    requires right { IsLetter braid.now b }
+    ensures value { IfOk result (λ r. HasSameValues braid.now.field r (derived_from braid.now table.now u form.now a b)) }
+    ensures elements { IfOk result (AllElements braid.now.field) }
+    ensures shape { IfOk result IsOrdered }
+{
+    let field = braid.field();
+    let _modulus = field.modulus();
+    let own = if a == b {
+        Comb::single(alloc, field, u, 1)?
+    } else {
+        Comb::zero(alloc)
+    };
+    let by = braid.scalar(a, b);
+    let letter = braid.act(a, b);
+    with_followed(alloc, field, own, by, table, form, letter)
+}
+
+/// The normal forms of the derivatives of `u x_b`, from those of the least word u.
+fn derivatives(
+    alloc: Global,
+    braid: &Braid,
+    table: &[Relation],
+    u: Word,
+    forms: &[Comb],
+    b: u8,
+) -> Result<Derivatives, AllocError>
+    requires word { IsIn u (basis is_killed braid.now (length u)) }
+    requires short { length u < 60 }
+    requires table { table.now ≡ relations is_killed braid.now (length u) }
+    requires forms { forms.now ≡ derived_forms braid.now (length u) u }
+    requires letter { IsLetter braid.now b }
+    ensures { IfOk result (λ r. r ≡ derived_forms braid.now (suc (length u)) (u ++ b ∷ [])) }
+{
+    let _field = braid.field();
+    let mut out = Vec::new(alloc);
+    for a in 0..braid.letters() {
+        let form = &forms[usize::from(a)];
+        out.push(derivative(alloc, braid, table, u, form, a + 1, b)?)?;
+    }
+    Ok(Derivatives::of(out))
+}
+
+/// Puts the normal forms of the derivatives of u with each letter behind, behind others.
+fn push_derivatives(
+    alloc: Global,
+    braid: &Braid,
+    table: &[Relation],
+    u: Word,
+    forms: &[Comb],
+    out: &mut Vec<Derivatives>,
+) -> Result<(), AllocError>
+    requires word { IsIn u (basis is_killed braid.now (length u)) }
+    requires short { length u < 60 }
+    requires table { table.now ≡ relations is_killed braid.now (length u) }
+    requires forms { forms.now ≡ derived_forms braid.now (length u) u }
+    ensures { OnOk result (out.new.items ≡ out.old.items ++ map (λ b. derived_forms braid.now (suc (length u)) (u ++ b ∷ [])) (up_to braid.now.letters)) }
+{
+    for b in 0..braid.letters() {
+        out.push(derivatives(alloc, braid, table, u, forms, b + 1)?)?;
+    }
+    Ok(())
+}
+
+/// The normal forms of the derivatives of all candidates of the next degree, in order.
+pub(crate) fn all_derivatives(
+    alloc: Global,
+    braid: &Braid,
+    lower: &DegreeRule,
+) -> Result<Vec<Derivatives>, AllocError>
+    requires rule { IsRuleOf braid.now lower.now.degree lower.now }
+    requires degree { lower.now.degree < 60 }
+    ensures { IfOk result (λ r. r.items ≡ map (derived_forms braid.now (suc lower.now.degree)) (candidates is_killed braid.now (suc lower.now.degree))) }
+{
+    let table = lower.table.as_slice();
+    let derivs = lower.derivs.as_slice();
+    let mut out = Vec::new(alloc);
+    for (k, u) in lower.basis.as_slice().iter().enumerate() {
+        let own = &derivs[k];
+        push_derivatives(alloc, braid, table, *u, own.forms(), &mut out)?;
+    }
+    Ok(out)
+}
