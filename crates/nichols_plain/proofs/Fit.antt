@@ -41,7 +41,8 @@ pub form_by_place : (vanishes : Vanishing) (braid : BraidValue) → IsField brai
     (φ : ℕ → List ℕ → ℕ) → AreFunctionals braid.field (vanishes braid m) ws φ → (rows : List (List Cell)) → AreNumbersOf ws φ (number braid.field rows) → (places : List Place) → (i : ℕ) → i < length ws →
     ((j : ℕ) → j < i → place_at places j ≡ Independent → is_least vanishes braid (word_at ws j) ≡ true) → (cells : List Cell) → IsReduction braid.field rows places i cells →
     (is_least vanishes braid (word_at ws i) ≡ false) × (normal_form vanishes braid m (single (word_at ws i)) ≡ made ws cells)
-form_by_place vanishes braid is m l ws s φ functionals rows numbers places i within least cells r =
-    (combined_row_is_not_least vanishes braid is m l ws s φ functionals (number braid.field rows) numbers i within cells r.combination.earlier (λ c. r.combination.value c ∙ combined_is braid.field rows cells c),
-    form_of_combined_row vanishes braid is m l ws s φ functionals (number braid.field rows) numbers i within cells r.combination.earlier r.combination.elements r.shape.nonzero r.shape.rising
-    (least_pairs vanishes braid ws places i least cells r.combination.earlier r.independent) (λ c. r.combination.value c ∙ combined_is braid.field rows cells c))
+form_by_place vanishes braid is m l ws s φ functionals rows numbers places i within least cells r = (
+  combined_row_is_not_least vanishes braid is m l ws s φ functionals (number braid.field rows) numbers i within cells r.combination.earlier (λ c. r.combination.value c ∙ combined_is braid.field rows cells c),
+  form_of_combined_row vanishes braid is m l ws s φ functionals (number braid.field rows) numbers i within cells r.combination.earlier r.combination.elements r.shape.nonzero r.shape.rising
+      (least_pairs vanishes braid ws places i least cells r.combination.earlier r.independent) (λ c. r.combination.value c ∙ combined_is braid.field rows cells c),
+)

@@ -13,12 +13,7 @@ fn table(alloc: Global, entries: &[&[i64]]) -> Result<Vec<Vec<i64>>, AllocError>
     Ok(out)
 }
 
-fn braid(
-    alloc: Global,
-    modulus: i64,
-    rack: &[&[i64]],
-    scalars: &[&[i64]],
-) -> Result<Braid, Fail> {
+fn braid(alloc: Global, modulus: i64, rack: &[&[i64]], scalars: &[&[i64]]) -> Result<Braid, Fail> {
     let field = Field::new(modulus).map_err(|_| "no field")?;
     let rack = table(alloc, rack)?;
     let scalars = Scalars::Table(table(alloc, scalars)?);
@@ -40,12 +35,9 @@ fn three_transpositions(alloc: Global) -> Result<Braid, Fail> {
 fn has_terms(comb: &Comb, expected: &[(&[u8], u32)]) -> bool {
     let terms = comb.terms();
     terms.len() == expected.len()
-        && terms
-            .iter()
-            .zip(expected)
-            .all(|(term, (letters, coefficient))| {
-                term.word.letters() == *letters && term.coefficient == *coefficient
-            })
+        && terms.iter().zip(expected).all(|(term, (letters, coefficient))| {
+            term.word.letters() == *letters && term.coefficient == *coefficient
+        })
 }
 
 fn has_words(words: &[Word], expected: &[&[u8]]) -> bool {
@@ -56,14 +48,14 @@ fn has_words(words: &[Word], expected: &[&[u8]]) -> bool {
             .all(|(word, letters)| word.letters() == *letters)
 }
 
-fn has_relations(relations: &[Relation], expected: &[(&[u8], &[(&[u8], u32)])]) -> bool {
+/// A candidate with the terms of its form.
+type Expected = (&'static [u8], &'static [(&'static [u8], u32)]);
+
+fn has_relations(relations: &[Relation], expected: &[Expected]) -> bool {
     relations.len() == expected.len()
-        && relations
-            .iter()
-            .zip(expected)
-            .all(|(relation, (letters, form))| {
-                relation.candidate.letters() == *letters && has_terms(&relation.form, form)
-            })
+        && relations.iter().zip(expected).all(|(relation, (letters, form))| {
+            relation.candidate.letters() == *letters && has_terms(&relation.form, form)
+        })
 }
 
 /// Over the three transpositions with scalar -1, dimensions 1, 3, 4, 3.
@@ -76,10 +68,17 @@ fn degrees_over_the_three_transpositions(rt: HostRuntime) -> Result<(), Fail> {
     let none = plain_degree(rt.alloc(), &three, 0)?;
     assert!(rt; has_words(none.basis.as_slice(), &[&[]]) && none.relations.is_empty());
     let letters = plain_degree(rt.alloc(), &three, 1)?;
-    assert!(rt; has_words(letters.basis.as_slice(), &[&[1], &[2], &[3]]) && letters.relations.is_empty());
+    assert!(rt;
+        has_words(letters.basis.as_slice(), &[&[1], &[2], &[3]]) && letters.relations.is_empty()
+    );
     let pairs = plain_degree(rt.alloc(), &three, 2)?;
-    assert!(rt; has_words(pairs.basis.as_slice(), &[&[1, 2], &[1, 3], &[2, 1], &[2, 3]]));
-    let relations: [(&[u8], &[(&[u8], u32)]); 5] = [
+    assert!(rt;
+        has_words(
+            pairs.basis.as_slice(),
+            &[&[1, 2], &[1, 3], &[2, 1], &[2, 3]]
+        )
+    );
+    let relations: [Expected; 5] = [
         (&[1, 1], &[]),
         (&[2, 2], &[]),
         (&[3, 1], &[(&[1, 2], 100), (&[2, 3], 100)]),
@@ -120,8 +119,7 @@ fn degrees_over_two_elements(rt: HostRuntime) -> Result<(), Fail> {
     let pairs = plain_degree(rt.alloc(), &two, 2)?;
     assert_eq!(rt; pairs.degree, 2);
     assert!(rt; has_words(pairs.basis.as_slice(), &[&[1, 2]]));
-    let relations: [(&[u8], &[(&[u8], u32)]); 3] =
-        [(&[1, 1], &[]), (&[2, 1], &[(&[1, 2], 1)]), (&[2, 2], &[])];
+    let relations: [Expected; 3] = [(&[1, 1], &[]), (&[2, 1], &[(&[1, 2], 1)]), (&[2, 2], &[])];
     assert!(rt; has_relations(pairs.relations.as_slice(), &relations));
     Ok(())
 }

@@ -29,11 +29,11 @@ loop-i-preserved c =
       | in-Independent+in_ok-push-in-Independent w ↦
           rw (w.basis-is, w.relations-is)
           (sorted-least c.args.braid.now c.args.degree c.args.words.now c.in_ok-rows.rows.items c.in_ok-places.places.items split c.loop-i.i c.loop-i-test.true c.index-words-i.result c.index-words-i.is c.index.result.now c.index.ensures w.in-Independent.is
-            c.loop-i.basis.items c.loop-i.relations.items c.loop-i.invariant w.push.new.self.items w.in_ok-push-in-Independent.ensures.items)
+          c.loop-i.basis.items c.loop-i.relations.items c.loop-i.invariant w.push.new.self.items w.in_ok-push-in-Independent.ensures.items)
       | in-Depends+in_ok-form-in-Depends+in_ok-push-in-Depends w ↦
           rw (w.basis-is, w.relations-is)
           (sorted-other c.args.braid.now c.args.degree c.args.words.now c.in_ok-rows.rows.items c.in_ok-places.places.items split c.loop-i.i c.loop-i-test.true c.index-words-i.result c.index-words-i.is c.index.result.now w.in-Depends.row c.index.ensures w.in-Depends.is
-            c.loop-i.basis.items c.loop-i.relations.items c.loop-i.invariant w.in_ok-form-in-Depends.form w.in_ok-form-in-Depends.ensures w.push-in-Depends.new.self.items w.in_ok-push-in-Depends.ensures.items)
+          c.loop-i.basis.items c.loop-i.relations.items c.loop-i.invariant w.in_ok-form-in-Depends.form w.in_ok-form-in-Depends.ensures w.push-in-Depends.new.self.items w.in_ok-push-in-Depends.ensures.items)
     ]
 
 pub returns : goal.returns
