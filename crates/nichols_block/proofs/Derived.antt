@@ -1,12 +1,12 @@
 -- The derivatives of a candidate, in normal form: what the letter at its end and the forms of the word before it give.
-use Rattle.std.proofs.Common.{◌≡◌, ◌≢◌, ℕ, zero, suc, Bool, true, false, not, cond, List, [], ◌∷◌, ◌++◌, length, map, nat_eq, refl, sym, ◌∙◌, ap, subst, arith, ◌⊎◌, inl, inr}
+use Rattle.std.proofs.Common.{◌≡◌, ◌≢◌, ℕ, zero, suc, Bool, true, false, not, cond, List, [], ◌∷◌, ◌++◌, length, map, nat_eq, refl, sym, ◌∙◌, ap, subst, arith, inl, inr}
 use Rattle.std.specs.Prelude.{if◌then◌else◌}
 use Rattle.std.specs.List.{filter, AllByRecursion}
 use Rattle.std.specs.Cmp.Lexicographic.{same_text, other_text}
 use Rattle.nichols_field.specs.Field.{FieldValue, IsField, negative}
 use Rattle.nichols_tensor.specs.Members.{IsIn}
 use Rattle.nichols_tensor.specs.Combination.{Combination, value_at, HasSameValues, AllElements, AllAmong, same_letters, single, scaled, minus, extended, words_of}
-use Rattle.nichols_tensor.specs.Words.{IsWordOver, IsOver, HasDegree}
+use Rattle.nichols_tensor.specs.Words.{IsWordOver}
 use Rattle.nichols_tensor.specs.WordOrder.{IsOrdered}
 use Rattle.nichols_tensor.proofs.Entries.{from_filter, in_filter}
 use Rattle.nichols_tensor.proofs.Enumeration.{among-append, among-scaled}

@@ -1,12 +1,12 @@
 -- Forms in a table of relations.
-use Rattle.std.proofs.Common.{◌≡◌, ◌≢◌, ℕ, zero, suc, ◌<◌, Bool, true, false, cond, List, [], ◌∷◌, ◌++◌, length, map, get_or, take, nat_eq, refl, sym, ◌∙◌, ap, ap₂, subst, arith, inl, inr, ◌+◌}
-use Rattle.std.proofs.Common.{Result, Ok, Err}
+use Rattle.std.proofs.Common.{◌≡◌, ◌≢◌, ℕ, zero, suc, ◌<◌, Bool, true, false, cond, List, [], ◌∷◌, ◌++◌, length, get_or, take, nat_eq, refl, sym, ◌∙◌, ap, ap₂, subst, arith, inl, inr, ◌+◌}
+use Rattle.std.proofs.Common.{Ok, Err}
 use Rattle.std.specs.Prelude.{if◌then◌else◌}
 use Rattle.std.proofs.lemmas.List.{take_more, append-nil}
 use Rattle.std.proofs.lemmas.Bool.Decides.{Decides-eqb}
 use Rattle.std.specs.List.{AllByRecursion}
 use Rattle.std.specs.List.Sorted.{IsBinarySearchResult, IsSearchInRange}
-use Rattle.std.specs.Cmp.Lexicographic.{same_text, other_text}
+use Rattle.std.specs.Cmp.Lexicographic.{same_text}
 use Rattle.nichols_field.specs.Field.{FieldValue, IsField, plus, times}
 use Rattle.nichols_field.proofs.FieldLaws.{plus_assoc, times_assoc, times_plus}
 use Rattle.nichols_tensor.specs.Members.{IsIn}

@@ -1,14 +1,14 @@
 -- The entries of the rows of words tell which combinations of candidates are zero in the algebra.
-use Rattle.std.proofs.Common.{◌≡◌, ◌≢◌, ℕ, zero, suc, ◌+◌, ◌<◌, ◌≤◌, ◌==◌, Bool, true, false, cond, List, [], ◌∷◌, ◌++◌, length, map, refl, sym, ◌∙◌, ap, ap₂, subst, arith, ◌⊎◌, inl, inr, eq-eqb}
+use Rattle.std.proofs.Common.{◌≡◌, ℕ, suc, ◌+◌, ◌<◌, ◌≤◌, ◌==◌, Bool, true, false, cond, List, [], ◌∷◌, length, map, refl, sym, ◌∙◌, ap, ap₂, arith, inl, inr, eq-eqb}
 use Rattle.std.specs.Prelude.{if◌then◌else◌}
 use Rattle.std.specs.List.{AllByRecursion}
 use Rattle.std.specs.Cmp.Lexicographic.{same_text, other_text}
-use Rattle.std.proofs.lemmas.Bool.{cases_lt, ne_eqb}
+use Rattle.std.proofs.lemmas.Bool.{ne_eqb}
 use Rattle.nichols_field.specs.Field.{FieldValue, IsField, IsElement, plus, times}
 use Rattle.nichols_field.proofs.FieldLaws.{plus_zero, times_zero, times_one, zero_is_element, plus_is_element}
 use Rattle.nichols_field.proofs.FieldAlgebra.{zero_plus, times_chosen}
 use Rattle.nichols_tensor.specs.Members.{IsIn}
-use Rattle.nichols_tensor.specs.Combination.{Combination, value_at, HasSameValues, IsZero, AllElements, AllAmong, same_letters, single, scaled, extended, words_of}
+use Rattle.nichols_tensor.specs.Combination.{Combination, value_at, IsZero, AllElements, AllAmong, same_letters, single, scaled, extended, words_of}
 use Rattle.nichols_tensor.specs.Positions.{word_at}
 use Rattle.nichols_tensor.specs.Words.{up_to, IsWordOver}
 use Rattle.nichols_tensor.proofs.Entries.{in_map}
@@ -32,7 +32,7 @@ use Rattle.nichols_braid.proofs.Congruences.{AreCongruent, congruent_sym, congru
 use Rattle.nichols_braid.proofs.Independence.{basis_is_independent}
 use Rattle.nichols_braid.proofs.Candidates.{from_candidates}
 use Rattle.nichols_braid.proofs.Rows.{AreFunctionals}
-use Rattle.nichols_echelon.specs.Cells.{Cell, entry}
+use Rattle.nichols_echelon.specs.Cells.{entry}
 use Rattle.nichols_echelon.proofs.Entries.{entry-nil, entry-append, entry_is_element}
 use Rattle.nichols_block.specs.Rule.{derived_form, derived_forms}
 use Rattle.nichols_block.specs.Rows.{place_in, form_cells, row_cells}

@@ -1,12 +1,11 @@
 -- Degree 0, and the rules from there on.
-use Rattle.std.proofs.Common.{◌≡◌, ◌≢◌, ℕ, zero, suc, ◌+◌, ◌-◌, ◌<◌, ◌≤◌, ◌↔◌, Bool, true, false, not, cond, IsTrue, List, [], ◌∷◌, ◌++◌, length, map, get_or, refl, sym, ◌∙◌, ap, ap₂, subst, arith, length-append, inl, inr, nat_eq}
-use Rattle.std.specs.List.{filter, AllByRecursion}
+use Rattle.std.proofs.Common.{◌≡◌, ℕ, zero, suc, ◌+◌, ◌-◌, ◌<◌, ◌≤◌, ◌↔◌, Bool, true, not, cond, IsTrue, List, [], ◌∷◌, ◌++◌, length, map, get_or, refl, sym, ◌∙◌, ap, ap₂, subst, arith, length-append, inl, inr, nat_eq}
 use Rattle.std.proofs.lemmas.Bool.{cases_lt}
 use Rattle.std.proofs.lemmas.Bool.Decides.{Decides-eqb}
 use Rattle.std.proofs.Math.ListN.{get_or-append}
 use Rattle.std.proofs.Math.Seq.{get_or-append_seam}
 use Rattle.std.specs.declared.cmp.Ordering.TheVariants.{Less, Equal}
-use Rattle.nichols_field.specs.Field.{FieldValue, IsField}
+use Rattle.nichols_field.specs.Field.{FieldValue}
 use Rattle.nichols_field.proofs.FieldLaws.{plus_zero, one_is_element}
 use Rattle.nichols_tensor.specs.Combination.{Combination, AllAmong, single}
 use Rattle.nichols_tensor.specs.Words.{up_to, IsWordOver, words, words_before}
@@ -16,7 +15,7 @@ use Rattle.nichols_tensor.proofs.Order.{word_cmp_itself}
 use Rattle.nichols_tensor.proofs.AllWords.{from_words_before}
 use Rattle.nichols_braid.specs.Braid.{BraidValue, IsBraid}
 use Rattle.nichols_braid.specs.Kernel.{is_killed}
-use Rattle.nichols_braid.specs.Least.{PlainRelation, is_least, basis, candidates, relations}
+use Rattle.nichols_braid.specs.Least.{PlainRelation, is_least, basis, relations}
 use Rattle.nichols_braid.proofs.BraidLaws.{killed_is_linear}
 use Rattle.nichols_braid.proofs.Congruences.{AreCongruent, zero_congruent}
 use Rattle.nichols_braid.proofs.LeastWords.{least_unless}

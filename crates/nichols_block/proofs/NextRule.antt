@@ -1,23 +1,22 @@
 -- The rule of a degree from that of the degree below.
-use Rattle.std.proofs.Common.{◌≡◌, ℕ, zero, suc, ◌+◌, ◌*◌, ◌^◌, ◌<◌, ◌≤◌, List, [], ◌∷◌, ◌++◌, length, map, get_or, refl, sym, ◌∙◌, ap, ap₂, subst, arith, length-append}
+use Rattle.std.proofs.Common.{◌≡◌, ℕ, suc, ◌+◌, ◌*◌, ◌^◌, ◌<◌, ◌≤◌, List, [], ◌∷◌, ◌++◌, length, map, refl, sym, ◌∙◌, ap, ap₂, subst, arith, length-append}
 use Rattle.std.specs.List.{flat_map, AllByRecursion}
 use Rattle.std.proofs.lemmas.List.{length-map, get_or-map}
-use Rattle.nichols_field.specs.Field.{FieldValue, IsField}
+use Rattle.nichols_field.specs.Field.{FieldValue}
 use Rattle.nichols_tensor.specs.Members.{IsIn}
-use Rattle.nichols_tensor.specs.Combination.{Combination, AllElements, AllAmong, single}
-use Rattle.nichols_tensor.specs.Positions.{word_at}
+use Rattle.nichols_tensor.specs.Combination.{Combination, AllElements}
 use Rattle.nichols_tensor.specs.Words.{up_to, IsWordOver}
 use Rattle.nichols_tensor.specs.WordOrder.{IsRising}
 use Rattle.nichols_tensor.proofs.Letters.{from_up_to}
 use Rattle.nichols_braid.specs.Braid.{BraidValue, IsBraid, IsLetter}
 use Rattle.nichols_braid.specs.Kernel.{is_killed}
-use Rattle.nichols_braid.specs.Least.{PlainRelation, is_least, basis, candidates, relations}
+use Rattle.nichols_braid.specs.Least.{PlainRelation, basis, candidates, relations}
 use Rattle.nichols_braid.specs.LeastLaws.{IsNormalForm}
 use Rattle.nichols_braid.proofs.BraidLaws.{killed_is_linear}
 use Rattle.nichols_braid.proofs.Lists.{all_from_in}
 use Rattle.nichols_braid.proofs.Rearranged.{up_to_length}
 use Rattle.nichols_braid.proofs.Reduction.{from_basis, basis_rises}
-use Rattle.nichols_braid.proofs.Candidates.{from_candidates, candidates_rise, candidates_next, with_letters, relations_are, least_of, relations_of}
+use Rattle.nichols_braid.proofs.Candidates.{from_candidates, candidates_rise, candidates_next, with_letters, relations_are}
 use Rattle.nichols_braid.proofs.Spanning.{basis_among}
 use Rattle.nichols_braid.proofs.LeastLaws.{killed_candidates_span}
 use Rattle.nichols_echelon.specs.Cells.{Cell, entry}
@@ -26,7 +25,7 @@ use Rattle.nichols_echelon.specs.Combination.{AllRowsElements, row_at}
 use Rattle.nichols_echelon.specs.Split.{IsSplit}
 use Rattle.nichols_echelon.specs.declared.rows.Place.{Place}
 use Rattle.nichols_echelon.proofs.Shapes.{all_append}
-use Rattle.nichols_block.specs.Rule.{PlainRule, derived_form, derived_forms, rule_of, IsRuleOf}
+use Rattle.nichols_block.specs.Rule.{derived_form, derived_forms, rule_of, IsRuleOf}
 use Rattle.nichols_block.specs.Rows.{form_cells, row_cells, IsFormOver}
 use Rattle.nichols_block.specs.Reading.{independent_in, dependent_in, IsInside}
 use Rattle.nichols_block.proofs.RuleOf.{derived_form_is_normal, rule_with, same_rule}

@@ -1,21 +1,21 @@
 -- The rows of words: places, and that the cells are a row.
-use Rattle.std.proofs.Common.{◌≡◌, ◌≢◌, ℕ, zero, suc, ◌+◌, ◌*◌, ◌<◌, ◌≤◌, Bool, true, false, cond, List, [], ◌∷◌, ◌++◌, length, map, get_or, take, refl, sym, ◌∙◌, ap, ap₂, subst, arith, append_assoc, Result, Ok, Err, ◌⊎◌, inl, inr}
+use Rattle.std.proofs.Common.{◌≡◌, ◌≢◌, ℕ, zero, suc, ◌+◌, ◌*◌, ◌<◌, ◌≤◌, Bool, true, false, cond, List, [], ◌∷◌, ◌++◌, length, map, get_or, take, refl, sym, ◌∙◌, ap, ap₂, subst, arith, append_assoc, Ok, Err, inl, inr}
 use Rattle.std.specs.List.{AllByRecursion}
 use Rattle.std.specs.List.Sorted.{IsBinarySearchResult, IsSearchInRange}
 use Rattle.std.specs.Cmp.Lexicographic.{same_text, other_text}
 use Rattle.std.specs.declared.cmp.Ordering.TheVariants.{Less}
 use Rattle.std.proofs.lemmas.Bool.{cases_lt}
-use Rattle.std.proofs.lemmas.List.{take_more, take_all, map-append, append-nil}
+use Rattle.std.proofs.lemmas.List.{take_more, map-append, append-nil}
 use Rattle.nichols_tensor.specs.Members.{IsIn}
 use Rattle.nichols_tensor.specs.Combination.{Term, Combination, AllAmong, AllNonzero, words_of, same_letters}
 use Rattle.nichols_tensor.specs.Positions.{word_at}
-use Rattle.nichols_tensor.specs.WordOrder.{word_cmp, IsRising, IsOrdered}
+use Rattle.nichols_tensor.specs.WordOrder.{word_cmp, IsRising}
 use Rattle.nichols_tensor.specs.WordOrder.{IsBelowFirst as IsWordBelowFirst}
 use Rattle.nichols_tensor.proofs.Order.{less_is_other}
 use Rattle.nichols_tensor.proofs.Rising.{words_at_rise, position_below}
 use Rattle.nichols_echelon.specs.Cells.{Cell, IsRow, IsBelowFirst, columns_of, AllBelow}
 use Rattle.nichols_echelon.specs.Cells.{IsRising as AreRising, AllNonzero as AllCellsNonzero}
-use Rattle.nichols_echelon.proofs.Shapes.{columns_of-append, all_append}
+use Rattle.nichols_echelon.proofs.Shapes.{all_append}
 use Rattle.nichols_block.specs.Rows.{place_in, form_cells, row_cells, IsFormOver}
 use Rattle.nichols_block.proofs.Searching.{search_says}
 

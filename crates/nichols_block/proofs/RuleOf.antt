@@ -1,20 +1,19 @@
 -- What the rule of a degree says, part by part, and what holds of its lists.
-use Rattle.std.proofs.Common.{◌≡◌, ℕ, zero, suc, ◌+◌, ◌<◌, List, [], ◌∷◌, ◌++◌, length, map, get_or, take, refl, sym, ◌≤◌, inl, inr, ◌∙◌, ap, ap₂, subst, arith, append_assoc, not, true}
+use Rattle.std.proofs.Common.{◌≡◌, ℕ, zero, suc, ◌+◌, ◌<◌, List, [], ◌∷◌, ◌++◌, length, map, get_or, take, sym, ◌≤◌, inl, inr, ◌∙◌, ap, ap₂, subst, arith, append_assoc, not, true}
 use Rattle.std.specs.List.{filter, AllByRecursion}
 use Rattle.std.proofs.lemmas.List.{map-append, get_or-map, length-map, take_more, take_all, append-nil}
 use Rattle.std.proofs.lemmas.Grind.{flat_map-append}
 use Rattle.std.proofs.lemmas.Simd.{map-map}
 use Rattle.std.proofs.Math.Seq.{get_or-append_seam}
-use Rattle.nichols_field.specs.Field.{FieldValue, IsField}
 use Rattle.nichols_tensor.specs.Members.{IsIn}
 use Rattle.nichols_tensor.specs.Combination.{Combination, AllElements, AllAmong, single}
-use Rattle.nichols_tensor.specs.Words.{up_to, IsWordOver, HasDegree}
+use Rattle.nichols_tensor.specs.Words.{up_to, IsWordOver}
 use Rattle.nichols_tensor.specs.WordOrder.{IsRising}
 use Rattle.nichols_tensor.proofs.Entries.{from_filter}
 use Rattle.nichols_braid.specs.Braid.{BraidValue, IsBraid, IsLetter}
 use Rattle.nichols_braid.specs.Derivation.{derived}
 use Rattle.nichols_braid.specs.Kernel.{is_killed}
-use Rattle.nichols_braid.specs.Least.{PlainRelation, is_least, basis, normal_form, candidates, relations}
+use Rattle.nichols_braid.specs.Least.{PlainRelation, is_least, basis, candidates, relations}
 use Rattle.nichols_braid.specs.LeastLaws.{IsNormalForm}
 use Rattle.nichols_braid.proofs.BraidLaws.{killed_is_linear}
 use Rattle.nichols_braid.proofs.Rearranged.{up_to_length}

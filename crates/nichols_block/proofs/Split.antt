@@ -1,5 +1,5 @@
 -- What the places of rows say of the words of a spanning list: which are least, and the normal forms of the others.
-use Rattle.std.proofs.Common.{◌≡◌, ℕ, zero, suc, ◌<◌, Bool, true, false, not, cond, List, [], ◌∷◌, ◌++◌, length, map, refl, sym, ◌∙◌, ap, ap₂, subst, arith}
+use Rattle.std.proofs.Common.{◌≡◌, ℕ, suc, ◌<◌, true, false, not, cond, List, [], ◌∷◌, length, map, refl, sym, ◌∙◌, ap, ap₂, arith}
 use Rattle.std.specs.List.{filter, AllByRecursion}
 use Rattle.nichols_field.specs.Field.{FieldValue, IsField, plus, times}
 use Rattle.nichols_tensor.specs.Combination.{Combination, single}
@@ -7,7 +7,7 @@ use Rattle.nichols_tensor.specs.Positions.{word_at}
 use Rattle.nichols_tensor.proofs.Values.{weight}
 use Rattle.nichols_braid.specs.Braid.{BraidValue}
 use Rattle.nichols_braid.specs.Kernel.{Vanishing}
-use Rattle.nichols_braid.specs.Least.{PlainRelation, is_least, basis, normal_form}
+use Rattle.nichols_braid.specs.Least.{PlainRelation, is_least, normal_form}
 use Rattle.nichols_braid.specs.LinearTest.{IsLinearTest}
 use Rattle.nichols_braid.specs.Rows.{made, combined_numbers}
 use Rattle.nichols_braid.proofs.Candidates.{least_of, relation_at, relations_of}
@@ -15,7 +15,7 @@ use Rattle.nichols_braid.proofs.Spanning.{IsSpanning}
 use Rattle.nichols_braid.proofs.Rows.{AreFunctionals, AllCellsLeast, weight-made, below_more, independent_is_least, dependent_is_not_least, form_by_rows}
 use Rattle.nichols_echelon.specs.Cells.{Cell, entry, AllBelow}
 use Rattle.nichols_echelon.specs.Combination.{row_at, combined, IsDependent}
-use Rattle.nichols_echelon.specs.Split.{place_at, AllIndependent, IsReduction, IsPlace, IsSplit}
+use Rattle.nichols_echelon.specs.Split.{place_at, AllIndependent, IsPlace, IsSplit}
 use Rattle.nichols_echelon.specs.declared.rows.Place.{Place}
 use Rattle.nichols_echelon.specs.declared.rows.Place.TheVariants.{Independent, Depends}
 use Rattle.nichols_echelon.proofs.Uniqueness.{place_independent}

@@ -1,6 +1,5 @@
 -- What the places of rows say of the words that have the rows.
 use Rattle.std.specs.Prelude.{ℕ, List, [], ◌∷◌}
-use Rattle.std.specs.List.{AllByRecursion}
 use Rattle.nichols_braid.specs.Least.{PlainRelation}
 use Rattle.nichols_braid.specs.Rows.{made}
 use Rattle.nichols_echelon.specs.Cells.{AllBelow}

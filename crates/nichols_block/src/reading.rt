@@ -69,11 +69,7 @@ pub(crate) fn least_words(
 }
 
 /// Puts derivatives behind others where the place of their word is independent.
-fn push_least(
-    out: &mut Vec<Derivatives>,
-    own: Derivatives,
-    place: &Place,
-) -> Result<(), AllocError>
+fn push_least(out: &mut Vec<Derivatives>, own: Derivatives, place: &Place) -> Result<(), AllocError>
     ensures { OnOk result (out.new.items ≡ out.old.items ++ independent_in (own ∷ []) (place.now ∷ [])) }
 {
     if let Place::Independent = place {

@@ -1,4 +1,4 @@
-use Rattle.std.proofs.Common.{◌≡◌, ◌<◌, ◌≤◌, ℕ, suc, List, length, arith, sym, ◌∙◌, ap, subst}
+use Rattle.std.proofs.Common.{◌≡◌, ◌<◌, length, arith, sym, ◌∙◌, ap, subst}
 use Rattle.nichols_braid.specs.Kernel.{is_killed}
 use Rattle.nichols_braid.specs.Least.{basis, relations}
 use Rattle.nichols_block.specs.Rule.{PlainRule}

@@ -1,4 +1,4 @@
-use Rattle.std.proofs.Common.{◌≡◌, IfOk, sym, ◌∙◌}
+use Rattle.std.proofs.Common.{◌∙◌}
 use Rattle.std.proofs.lemmas.Result.{IfOk-weaker}
 use Rattle.nichols_field.proofs.FieldLaws.{one_is_element}
 use Rattle.nichols_block.proofs.FormsOf.{derived_by_own, derived_by_others}

@@ -1,7 +1,6 @@
-use Rattle.std.proofs.Common.{◌≡◌, ◌<◌, ◌≤◌, ◌+◌, ◌++◌, ◌∷◌, [], suc, length, map, arith, sym, ◌∙◌, ap, subst}
+use Rattle.std.proofs.Common.{◌≡◌, ◌+◌, ◌++◌, ◌∷◌, [], suc, length, map, arith, sym, ◌∙◌, ap, subst}
 use Rattle.nichols_tensor.specs.Combination.{AllElements}
 use Rattle.nichols_tensor.specs.Words.{up_to}
-use Rattle.nichols_braid.specs.Braid.{IsLetter}
 use Rattle.nichols_block.specs.Forms.{AllShort}
 use Rattle.nichols_block.specs.Rule.{derived_form, derived_forms}
 use Rattle.nichols_block.proofs.RuleOf.{forms_length, form_here, derived_form_elements, derived_form_short, table_is_table, pushed_letter}

@@ -1,14 +1,12 @@
-use Rattle.std.proofs.Common.{◌≡◌, ◌<◌, ◌++◌, ◌∷◌, IfOk, List, [], length, ℕ, get_or, sym, ◌∙◌, ap, subst, rules, Ok, Err, cond}
-use Rattle.std.specs.List.Sorted.{IsBinarySearchResult, IsSearchInRange}
+use Rattle.std.proofs.Common.{◌≡◌, ◌++◌, List, ℕ, ◌∙◌, ap, rules}
 use Rattle.std.proofs.lemmas.List.Sorted.{answers_always}
 use Rattle.std.proofs.lemmas.Result.{IfOk-weaker}
-use Rattle.nichols_field.specs.Field.{FieldValue, IsField, plus, times}
+use Rattle.nichols_field.specs.Field.{IsField, plus, times}
 use Rattle.nichols_field.proofs.FieldLaws.{one_is_element}
-use Rattle.nichols_tensor.specs.Combination.{Combination, AllElements, HasSameValues, scaled, single, value_at, same_letters}
+use Rattle.nichols_tensor.specs.Combination.{HasSameValues, scaled, value_at}
 use Rattle.nichols_braid.specs.Least.{PlainRelation}
-use Rattle.nichols_block.specs.Forms.{IsTable, form_in}
-use Rattle.nichols_block.proofs.Searching.{search_says}
-use Rattle.nichols_block.proofs.FormsOf.{form_found, form_missed, sum_values, sum_values_of}
+use Rattle.nichols_block.specs.Forms.{form_in}
+use Rattle.nichols_block.proofs.FormsOf.{form_found, form_missed, sum_values_of}
 use Rattle.nichols_block.proofs.derivatives.with_form.Goals as goal
 
 pub single-requires : goal.single-requires

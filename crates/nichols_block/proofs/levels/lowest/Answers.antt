@@ -1,4 +1,4 @@
-use Rattle.std.proofs.Common.{rules, ◌∙◌, ap, ◌++◌, ◌∷◌, []}
+use Rattle.std.proofs.Common.{rules}
 use Rattle.nichols_block.proofs.Lowest.{lowest_is_rule}
 use Rattle.nichols_block.proofs.levels.lowest.Goals as goal
 

@@ -1,4 +1,4 @@
-use Rattle.std.proofs.Common.{◌≡◌, [], arith, ap, ◌∙◌, Vec}
+use Rattle.std.proofs.Common.{[], arith, ap, ◌∙◌}
 use Rattle.nichols_block.proofs.ReadingOf.{kept_more, skipped_more}
 use Rattle.nichols_block.proofs.reading.least_words.Goals.{in-Independent+in_ok-push, in_default}
 use Rattle.nichols_block.proofs.reading.least_words.Goals as goal

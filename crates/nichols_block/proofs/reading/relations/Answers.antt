@@ -1,5 +1,4 @@
-use Rattle.std.proofs.Common.{◌≡◌, ◌++◌, ◌∷◌, [], arith, ap, ◌∙◌, sym}
-use Rattle.nichols_tensor.specs.Combination.{Combination}
+use Rattle.std.proofs.Common.{arith, ap, ◌∙◌}
 use Rattle.nichols_braid.specs.Rows.{made}
 use Rattle.nichols_block.proofs.ReadingOf.{related_more, unrelated_more}
 use Rattle.nichols_block.proofs.reading.relations.Goals.{in-Depends+in_ok-form+in_ok-push, in_default}

@@ -1,4 +1,3 @@
-use Rattle.std.proofs.Common.{◌≡◌}
 use Rattle.nichols_block.proofs.RowShapes.{place_found, place_there}
 use Rattle.nichols_block.proofs.rows.place_of.Goals as goal
 

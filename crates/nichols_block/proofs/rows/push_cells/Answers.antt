@@ -1,7 +1,7 @@
-use Rattle.std.proofs.Common.{◌≡◌, ◌<◌, length, arith, sym, ap, subst, refl}
+use Rattle.std.proofs.Common.{◌<◌, length, arith, sym, subst}
 use Rattle.nichols_tensor.specs.Combination.{Term}
 use Rattle.nichols_tensor.specs.Members.{IsIn}
-use Rattle.nichols_block.proofs.RowShapes.{term_among, form_cells-more}
+use Rattle.nichols_block.proofs.RowShapes.{term_among}
 use Rattle.nichols_block.proofs.rows.push_cells.Goals as goal
 
 pub place_of-requires-clause-there : goal.place_of-requires-clause-there

@@ -1,4 +1,4 @@
-use Rattle.std.proofs.Common.{◌≡◌, ◌<◌, ◌≤◌, ◌∙◌, length, arith, sym, ap, subst, refl}
+use Rattle.std.proofs.Common.{◌≤◌, ◌∙◌, length, arith, sym, ap, subst, refl}
 use Rattle.std.proofs.lemmas.List.{take_all}
 use Rattle.nichols_echelon.specs.Cells.{IsRow}
 use Rattle.nichols_block.specs.Rows.{row_cells}

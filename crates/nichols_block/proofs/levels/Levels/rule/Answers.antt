@@ -1,4 +1,3 @@
-use Rattle.nichols_block.specs.Rule.{rule_of}
 use Rattle.nichols_block.proofs.RuleOf.{rule_degree}
 use Rattle.nichols_block.proofs.Lowest.{level_rule}
 use Rattle.nichols_block.proofs.levels.Levels.rule.Goals as goal
