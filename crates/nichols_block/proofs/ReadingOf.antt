@@ -2,7 +2,6 @@
 use Rattle.std.proofs.Common.{◌≡◌, ℕ, zero, suc, ◌+◌, ◌<◌, ◌≤◌, List, [], ◌∷◌, ◌++◌, length, get_or, take, reverse, refl, sym, ◌∙◌, ap, ap₂, subst, arith, append_assoc, length-append}
 use Rattle.std.specs.List.{AllByRecursion}
 use Rattle.std.proofs.lemmas.List.{take_more, take_all, append-nil, get_or_read, reverse-append}
-use Rattle.nichols_tensor.specs.Combination.{Combination}
 use Rattle.nichols_tensor.specs.WordOrder.{IsRising, IsOrdered}
 use Rattle.nichols_tensor.specs.Positions.{word_at}
 use Rattle.nichols_braid.specs.Least.{PlainRelation}
@@ -105,19 +104,13 @@ dependent_more all xs ps k p e less =
     ap₂ (dependent_in all) (take_more xs k [] less) (take_more ps k p less_ps)
     ∙ dependent_in-push all (take k xs) (word_at xs k) (take k ps) (get_or ps k p) (length_front ps k (omega arith) ∙ sym (length_front xs k (omega arith)))
 
-pub related_more : (all xs : List (List ℕ)) (ps : List Place) (k : ℕ) (x : List ℕ) (p : Place) (cells : List Cell) (form : Combination) (out more : List PlainRelation) → length ps ≡ length xs → k < length xs → x ≡ get_or xs k x → p ≡ get_or ps k p → p ≡ Depends cells →
-    form ≡ made all cells → out ≡ dependent_in all (take k xs) (take k ps) → more ≡ out ++ record { candidate = x; form = form } ∷ [] → more ≡ dependent_in all (take (k + 1) xs) (take (k + 1) ps)
-related_more all xs ps k x p cells form out more e less x_at p_at is form_is before pushed =
-    pushed ∙ ap₂ (λ (zs : List PlainRelation) (f : Combination). zs ++ record { candidate = x; form = f } ∷ []) before form_is
-    ∙ sym (dependent_more all xs ps k p e less ∙ ap₂ (λ y q. dependent_in all (take k xs) (take k ps) ++ dependent_in all (y ∷ []) (q ∷ [])) (sym (get_or_read xs k x less x_at [])) (sym p_at ∙ is))
+pub related_more : (all xs : List (List ℕ)) (ps : List Place) (k : ℕ) (x : List ℕ) (p : Place) (out more : List PlainRelation) → length ps ≡ length xs → k < length xs → x ≡ get_or xs k x → p ≡ get_or ps k p →
+    out ≡ dependent_in all (take k xs) (take k ps) → more ≡ out ++ dependent_in all (x ∷ []) (p ∷ []) → more ≡ dependent_in all (take (k + 1) xs) (take (k + 1) ps)
+related_more all xs ps k x p out more e less x_at p_at before pushed =
+    pushed ∙ ap (λ zs. zs ++ dependent_in all (x ∷ []) (p ∷ [])) before
+    ∙ sym (dependent_more all xs ps k p e less ∙ ap₂ (λ y q. dependent_in all (take k xs) (take k ps) ++ dependent_in all (y ∷ []) (q ∷ [])) (sym (get_or_read xs k x less x_at [])) (sym p_at))
 
-pub unrelated_more : (all xs : List (List ℕ)) (ps : List Place) (k : ℕ) (p : Place) (out more : List PlainRelation) → length ps ≡ length xs → k < length xs → p ≡ get_or ps k p → p ≡ Independent →
-    out ≡ dependent_in all (take k xs) (take k ps) → more ≡ out → more ≡ dependent_in all (take (k + 1) xs) (take (k + 1) ps)
-unrelated_more all xs ps k p out more e less p_at is before same =
-    same ∙ before
-    ∙ sym (dependent_more all xs ps k p e less ∙ ap (λ q. dependent_in all (take k xs) (take k ps) ++ dependent_in all (word_at xs k ∷ []) (q ∷ [])) (sym p_at ∙ is) ∙ append-nil (dependent_in all (take k xs) (take k ps)))
-
-pub inside_at : (bound : ℕ) (ps : List Place) (k : ℕ) (p : Place) (cells : List Cell) → AllByRecursion (IsInside bound) ps → k < length ps → p ≡ get_or ps k p → p ≡ Depends cells → AllBelow bound cells
-inside_at bound [] k p cells h less at is = absurd (omega arith)
-inside_at bound (q ∷ ps) zero p cells h less at is = subst (IsInside bound) (sym at ∙ is) h.0
-inside_at bound (q ∷ ps) (suc k) p cells h less at is = inside_at bound ps k p cells h.1 (omega arith) at is
+pub inside_at : (bound : ℕ) (ps : List Place) (k : ℕ) (p : Place) → AllByRecursion (IsInside bound) ps → k < length ps → p ≡ get_or ps k p → IsInside bound p
+inside_at bound [] k p h less at = absurd (omega arith)
+inside_at bound (q ∷ ps) zero p h less at = subst (IsInside bound) (sym at) h.0
+inside_at bound (q ∷ ps) (suc k) p h less at = inside_at bound ps k p h.1 (omega arith) at

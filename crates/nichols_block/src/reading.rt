@@ -28,6 +28,25 @@ fn form_of(alloc: Global, words: &[Word], cells: &[Cell]) -> Result<Comb, AllocE
     Ok(Comb::from_terms(terms))
 }
 
+/// Puts a word whose row depends on rows before it, with its form, behind other relations.
+fn push_relation(
+    alloc: Global,
+    words: &[Word],
+    candidate: Word,
+    place: &Place,
+    out: &mut Vec<Relation>,
+) -> Result<(), AllocError>
+    requires rising { IsRising words.now }
+    requires inside { IsInside (length words.now) place.now }
+    ensures { OnOk result (out.new.items ≡ out.old.items ++ dependent_in words.now (candidate ∷ []) (place.now ∷ [])) }
+{
+    if let Place::Depends(row) = place {
+        let form = form_of(alloc, words, row.cells())?;
+        out.push(Relation { candidate, form })?;
+    }
+    Ok(())
+}
+
 /// The words whose rows depend on rows before them, with their forms.
 pub(crate) fn relations(
     alloc: Global,
@@ -41,11 +60,7 @@ pub(crate) fn relations(
 {
     let mut out = Vec::new(alloc);
     for (k, place) in places.iter().enumerate() {
-        if let Place::Depends(row) = place {
-            let candidate = words[k];
-            let form = form_of(alloc, words, row.cells())?;
-            out.push(Relation { candidate, form })?;
-        }
+        push_relation(alloc, words, words[k], place, &mut out)?;
     }
     Ok(out)
 }
