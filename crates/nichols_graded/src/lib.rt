@@ -6,3 +6,6 @@ mod graded;
 
 pub use ends::{Advance, End, Stop};
 pub use graded::Graded;
+
+#[cfg(test)]
+mod tests;
