@@ -30,12 +30,7 @@ fn table(alloc: Global, entries: &[&[i64]]) -> Result<Vec<Vec<i64>>, AllocError>
     Ok(out)
 }
 
-fn braid(
-    alloc: Global,
-    modulus: i64,
-    rack: &[&[i64]],
-    scalars: &[&[i64]],
-) -> Result<Braid, Fail> {
+fn braid(alloc: Global, modulus: i64, rack: &[&[i64]], scalars: &[&[i64]]) -> Result<Braid, Fail> {
     let field = Field::new(modulus).map_err(|_| "no field")?;
     let rack = table(alloc, rack)?;
     let scalars = Scalars::Table(table(alloc, scalars)?);
@@ -59,12 +54,9 @@ fn derivative(alloc: Global, braid: &Braid, a: u8, letters: &[u8]) -> Result<Com
 fn has_terms(comb: &Comb, expected: &[(&[u8], u32)]) -> bool {
     let terms = comb.terms();
     terms.len() == expected.len()
-        && terms
-            .iter()
-            .zip(expected)
-            .all(|(term, (letters, coefficient))| {
-                term.word.letters() == *letters && term.coefficient == *coefficient
-            })
+        && terms.iter().zip(expected).all(|(term, (letters, coefficient))| {
+            term.word.letters() == *letters && term.coefficient == *coefficient
+        })
 }
 
 type Row = (u8, &'static [u8], &'static [(&'static [u8], u32)]);

@@ -169,9 +169,9 @@ exchanged_array n (suc j) xs ys h d e =
     let room : n ≤ length xs = omega (arith, h.short, h.whole) in
     let shape : ys ≡ exchanged (suc j) xs = e ∙ ap (λ i. set (set xs i (get_or xs (suc j) 0)) (suc j) (get_or xs i 0)) back ∙ set_twice j xs (omega arith) in
     let front : take n ys ≡ exchanged (suc j) (take n xs) = ap (take n) shape ∙ exchanged_prefix j n xs within room in
-    let long : length (exchanged (suc j) (take n xs)) ≡ length (take n xs) = exchanged_length (suc j) (take n xs) in
-    ( front
-    , record {
+    let long : length (exchanged (suc j) (take n xs)) ≡ length (take n xs) = exchanged_length (suc j) (take n xs) in (
+      front,
+      record {
         short = h.short;
         whole = ap length shape ∙ exchanged_length (suc j) xs ∙ h.whole;
         padded = ap (drop n) shape ∙ exchanged_rest j n xs within ∙ h.padded;
@@ -179,4 +179,5 @@ exchanged_array n (suc j) xs ys h d e =
           short = subst (λ l. l ≤ place_limit) (sym long) h.perm.short;
           rearrangement = subst (λ l. IsRearrangement l (exchanged (suc j) (take n xs))) (sym long) (IsPermutation-trans (up_to (length (take n xs))) (take n xs) (exchanged (suc j) (take n xs)) h.perm.rearrangement (exchanged_is_permutation (suc j) (take n xs) d));
         });
-      })
+      },
+    )

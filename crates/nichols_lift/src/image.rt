@@ -36,12 +36,7 @@ pub fn symmetrize(alloc: Global, braid: &Braid, comb: &Comb) -> Result<Comb, All
 
 /// The image of a combination of words of at most `limit` letters: its constant term, and for each letter the image of the
 /// derivative with the letter put behind.
-fn image_below(
-    alloc: Global,
-    braid: &Braid,
-    comb: &Comb,
-    limit: usize,
-) -> Result<Comb, AllocError>
+fn image_below(alloc: Global, braid: &Braid, comb: &Comb, limit: usize) -> Result<Comb, AllocError>
     requires limit { limit ≤ symmetrizer_limit }
     requires lengths { AllAtMost limit comb.now }
     requires letters { IsOver braid.now.letters comb.now }

@@ -30,12 +30,7 @@ fn table(alloc: Global, entries: &[&[i64]]) -> Result<Vec<Vec<i64>>, AllocError>
     Ok(out)
 }
 
-fn braid(
-    alloc: Global,
-    modulus: i64,
-    rack: &[&[i64]],
-    scalars: &[&[i64]],
-) -> Result<Braid, Fail> {
+fn braid(alloc: Global, modulus: i64, rack: &[&[i64]], scalars: &[&[i64]]) -> Result<Braid, Fail> {
     let field = Field::new(modulus).map_err(|_| "no field")?;
     let rack = table(alloc, rack)?;
     let scalars = Scalars::Table(table(alloc, scalars)?);
@@ -57,12 +52,9 @@ fn three_transpositions(alloc: Global) -> Result<Braid, Fail> {
 fn has_terms(comb: &Comb, expected: &[(&[u8], u32)]) -> bool {
     let terms = comb.terms();
     terms.len() == expected.len()
-        && terms
-            .iter()
-            .zip(expected)
-            .all(|(term, (letters, coefficient))| {
-                term.word.letters() == *letters && term.coefficient == *coefficient
-            })
+        && terms.iter().zip(expected).all(|(term, (letters, coefficient))| {
+            term.word.letters() == *letters && term.coefficient == *coefficient
+        })
 }
 
 /// The image of a word of at most 7 letters.
@@ -108,13 +100,7 @@ fn images_of_powers(rt: HostRuntime) -> Result<(), Fail> {
 
 #[test]
 fn end_places(rt: HostRuntime) {
-    let refused: [&[u8]; 5] = [
-        &[1, 1],
-        &[0],
-        &[2],
-        &[1, 3],
-        &[1, 2, 3, 4, 5, 6, 7, 8],
-    ];
+    let refused: [&[u8]; 5] = [&[1, 1], &[0], &[2], &[1, 3], &[1, 2, 3, 4, 5, 6, 7, 8]];
     for ends in refused {
         assert!(rt; Perm::new(ends).is_none());
     }

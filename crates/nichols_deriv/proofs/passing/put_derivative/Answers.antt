@@ -25,11 +25,11 @@ loop-left-preserved-then-left-gt0 c =
       | then-a-letter+in_ok-push w ↦
           rw (w.out-is, w.in_ok-push.ensures.items)
           (passing-here c.args.braid.now c.field-field.ensures.braid.field c.args.a c.args.term.now.coefficient c.args.term.now.word c.args.out.now.items c.loop-left.left (c.loop-left.left - 1) c.loop-left.passed c.loop-left.scalar c.loop-left.out.items c.loop-left-test.true refl c.loop-left.invariant
-            c.letter-letter.result letter w.if-a-letter.true c.set.new.self c.mul-scalar.result next product)
+          c.letter-letter.result letter w.if-a-letter.true c.set.new.self c.mul-scalar.result next product)
       | else-a-letter w ↦
           rw w.out-is
           (passing-other c.args.braid.now c.field-field.ensures.braid.field c.args.a c.args.term.now.coefficient c.args.term.now.word c.args.out.now.items c.loop-left.left (c.loop-left.left - 1) c.loop-left.passed c.loop-left.scalar c.loop-left.out.items c.loop-left-test.true refl c.loop-left.invariant
-            c.letter-letter.result letter w.if-a-letter.false c.set.new.self c.mul-scalar.result next product)
+          c.letter-letter.result letter w.if-a-letter.false c.set.new.self c.mul-scalar.result next product)
     ]
 
 pub loop-left-preserved : goal.loop-left-preserved
@@ -43,11 +43,11 @@ loop-left-preserved c =
       | then-a-letter+in_ok-push w ↦
           rw (w.out-is, w.in_ok-push.ensures.items)
           (passing-here c.args.braid.now c.field-field.ensures.braid.field c.args.a c.args.term.now.coefficient c.args.term.now.word c.args.out.now.items c.loop-left.left (c.loop-left.left - 1) c.loop-left.passed c.loop-left.scalar c.loop-left.out.items c.loop-left-test.true refl c.loop-left.invariant
-            c.letter-letter.result letter w.if-a-letter.true c.loop-left.passed c.mul-scalar.result next product)
+          c.letter-letter.result letter w.if-a-letter.true c.loop-left.passed c.mul-scalar.result next product)
       | else-a-letter w ↦
           rw w.out-is
           (passing-other c.args.braid.now c.field-field.ensures.braid.field c.args.a c.args.term.now.coefficient c.args.term.now.word c.args.out.now.items c.loop-left.left (c.loop-left.left - 1) c.loop-left.passed c.loop-left.scalar c.loop-left.out.items c.loop-left-test.true refl c.loop-left.invariant
-            c.letter-letter.result letter w.if-a-letter.false c.loop-left.passed c.mul-scalar.result next product)
+          c.letter-letter.result letter w.if-a-letter.false c.loop-left.passed c.mul-scalar.result next product)
     ]
 
 pub returns-clause-value : goal.returns-clause-value

@@ -12,12 +12,17 @@ returns-then-limit-eq0-clause-value t c =
 
 pub image_below-requires : goal.image_below-requires
 image_below-requires t c =
-    let more : c.args.limit ≡ suc (c.args.limit - 1) = omega (arith, c.if-limit-eq0.false) in
-    ( omega arith
-    , ( omega arith
-      , ( derived_short c.args.braid.now (c.loop-i.i + 1) (c.args.limit - 1) c.args.comb.now c.in_ok-derivative.derivative c.field-field.ensures.braid.field c.in_ok-derivative.ensures.elements c.in_ok-derivative.ensures.shape c.in_ok-derivative.ensures.value
-          (subst (λ n. AllAtMost n c.args.comb.now) more c.requires.lengths)
-        , (c.in_ok-derivative.ensures.letters, c.in_ok-derivative.ensures.elements))))
+    let more : c.args.limit ≡ suc (c.args.limit - 1) = omega (arith, c.if-limit-eq0.false) in (
+      omega arith,
+      (
+        omega arith,
+        (
+          derived_short c.args.braid.now (c.loop-i.i + 1) (c.args.limit - 1) c.args.comb.now c.in_ok-derivative.derivative c.field-field.ensures.braid.field c.in_ok-derivative.ensures.elements c.in_ok-derivative.ensures.shape c.in_ok-derivative.ensures.value
+              (subst (λ n. AllAtMost n c.args.comb.now) more c.requires.lengths),
+          (c.in_ok-derivative.ensures.letters, c.in_ok-derivative.ensures.elements),
+        ),
+      ),
+    )
 
 pub put_behind-requires-clause-room : goal.put_behind-requires-clause-room
 put_behind-requires-clause-room t c = with_room c.in_ok-part.part c.args.limit c.requires.limit c.in_ok-part.ensures.lengths
@@ -39,7 +44,7 @@ loop-i-preserved t c =
       | then-not-is_zero+in_ok-part+in_ok-put_behind w ↦
           rw w.terms-is
           (summed-part c.args.braid.now c.field-field.ensures.braid.field c.args.comb.now c.loop-i.i (c.loop-i.i + 1) (c.loop-i.i + 1) c.loop-i.terms.items c.in_ok-derivative.derivative w.in_ok-part.part w.put_behind.new.terms.items c.loop-i.invariant refl refl
-            c.in_ok-derivative.ensures.value w.in_ok-part.ensures.value w.in_ok-part.ensures.elements w.in_ok-put_behind.ensures)
+          c.in_ok-derivative.ensures.value w.in_ok-part.ensures.value w.in_ok-part.ensures.elements w.in_ok-put_behind.ensures)
       | else-not-is_zero w ↦
           let none : c.in_ok-derivative.derivative ≡ [] = search (rules, w.if-not-is_zero.false) in
           rw w.terms-is
