@@ -1,10 +1,10 @@
 -- Two tests that agree on the combinations of words of each degree: all that is read in them is the same.
-use Rattle.std.proofs.Common.{◌≡◌, ℕ, zero, suc, Bool, not, List, [], ◌∷◌, ◌++◌, map, length, refl, sym, ◌∙◌, ap, subst}
-use Rattle.std.specs.Prelude.{Option, unwrap_or, find}
-use Rattle.std.specs.List.{flat_map, filter, AllByRecursion}
+use Rattle.std.proofs.Common.{◌≡◌, ℕ, zero, suc, not, List, [], ◌∷◌, ◌++◌, map, length, refl, ◌∙◌, ap}
+use Rattle.std.specs.Prelude.{unwrap_or, find}
+use Rattle.std.specs.List.{flat_map, filter}
 use Rattle.nichols_field.specs.Field.{FieldValue, negative}
 use Rattle.nichols_tensor.specs.Members.{IsIn}
-use Rattle.nichols_tensor.specs.Combination.{Combination, AllAmong, words_of, single, scaled, minus, without_zeros}
+use Rattle.nichols_tensor.specs.Combination.{Combination, AllAmong, single, scaled, minus, without_zeros}
 use Rattle.nichols_tensor.specs.Words.{up_to, IsWordOver, IsOver, HasDegree, words, words_before, combinations}
 use Rattle.nichols_tensor.proofs.Entries.{from_filter}
 use Rattle.nichols_tensor.proofs.Enumeration.{enumerated_words, among_from_words}
@@ -32,8 +32,8 @@ least_agrees vanishes other braid agree w over =
     let before : List (List ℕ) = words_before braid.letters w in
     ap not (any_same (are_congruent vanishes braid (length w) (single w)) (are_congruent other braid (length w) (single w)) (combinations braid.field before)
     (λ g i.
-      let earlier : IsOfEarlierWords braid w g = earlier_from_among braid w g (among_from_words g before (enumerated_words braid.field before g i)) in
-      congruence_agrees vanishes other braid agree (length w) (single w) g (refl, tt) (over, tt) earlier.degree earlier.over))
+    let earlier : IsOfEarlierWords braid w g = earlier_from_among braid w g (among_from_words g before (enumerated_words braid.field before g i)) in
+    congruence_agrees vanishes other braid agree (length w) (single w) g (refl, tt) (over, tt) earlier.degree earlier.over))
 
 basis_agrees : (vanishes other : Vanishing) (braid : BraidValue) → AgreeOnDegrees vanishes other braid → (m : ℕ) → basis vanishes braid m ≡ basis other braid m
 unfolding basis
@@ -49,10 +49,10 @@ form_agrees vanishes other braid agree m f degree over =
     ∙ ap (λ o. without_zeros (unwrap_or o []))
     (find_same (are_congruent vanishes braid m f) (are_congruent other braid m f) (combinations k ws)
     (λ g i.
-      let among : AllAmong g ws = among_from_words g ws (enumerated_words k ws g i) in
-      congruence_agrees vanishes other braid agree m f g degree over
-      (all_among (λ v. length v ≡ m) g ws among (all_of_entries (λ v. length v ≡ m) ws (λ v j. (from_basis other braid m v j).0)))
-      (all_among (IsWordOver braid.letters) g ws among (all_of_entries (IsWordOver braid.letters) ws (λ v j. (from_basis other braid m v j).1)))))
+    let among : AllAmong g ws = among_from_words g ws (enumerated_words k ws g i) in
+    congruence_agrees vanishes other braid agree m f g degree over
+    (all_among (λ v. length v ≡ m) g ws among (all_of_entries (λ v. length v ≡ m) ws (λ v j. (from_basis other braid m v j).0)))
+    (all_among (IsWordOver braid.letters) g ws among (all_of_entries (IsWordOver braid.letters) ws (λ v j. (from_basis other braid m v j).1)))))
 
 candidates_agree : (vanishes other : Vanishing) (braid : BraidValue) → AgreeOnDegrees vanishes other braid → (m : ℕ) → candidates vanishes braid m ≡ candidates other braid m
 unfolding candidates

@@ -1,5 +1,5 @@
 -- Candidates: they are words of their degree, and rise.
-use Rattle.std.proofs.Common.{◌≡◌, ℕ, zero, suc, ◌+◌, ◌<◌, Bool, true, false, not, cond, List, [], ◌∷◌, ◌++◌, map, length, refl, sym, ◌∙◌, ap, subst, arith, inl, inr, length-append}
+use Rattle.std.proofs.Common.{◌≡◌, ℕ, zero, suc, ◌+◌, ◌<◌, true, false, not, cond, List, [], ◌∷◌, ◌++◌, map, length, refl, sym, ◌∙◌, ap, subst, arith, inl, inr, length-append}
 use Rattle.std.specs.List.{flat_map, filter, AllByRecursion}
 use Rattle.std.proofs.lemmas.List.{map-append}
 use Rattle.std.proofs.lemmas.List.Elements.{filter-append}
@@ -7,7 +7,7 @@ use Rattle.std.proofs.lemmas.List.{append-nil}
 use Rattle.std.specs.declared.cmp.Ordering.TheVariants.{Less}
 use Rattle.nichols_tensor.specs.Members.{IsIn}
 use Rattle.nichols_tensor.specs.Combination.{single}
-use Rattle.nichols_tensor.specs.Words.{up_to, IsLetterOf, IsWordOver}
+use Rattle.nichols_tensor.specs.Words.{up_to, IsWordOver}
 use Rattle.nichols_tensor.specs.WordOrder.{word_cmp, IsBelowFirst, IsRising}
 use Rattle.nichols_tensor.proofs.Entries.{in_map, in_flat_map, from_map, from_flat_map}
 use Rattle.nichols_tensor.proofs.Letters.{in_up_to, from_up_to}
@@ -78,9 +78,9 @@ candidates_rise vanishes braid (suc m) =
     (ordered_of (λ u v. word_cmp u v ≡ Less) (λ u. length u ≡ m) ws (all_ordered_words ws (basis_rises vanishes braid m)) (all_of_entries (λ u. length u ≡ m) ws (λ u i. (from_basis vanishes braid m u i).0)))
     (λ u i. with_letters_rise u (up_to n) (up_to_rises n))
     (λ u v x y r i j.
-      let (a, l, e) = from_map (λ b. u ++ b ∷ []) x (up_to n) i in
-      let (b, o, d) = from_map (λ c. v ++ c ∷ []) y (up_to n) j in
-      subst (λ z. word_cmp z y ≡ Less) (sym e) (subst (λ z. word_cmp (u ++ a ∷ []) z ≡ Less) (sym d) (push_less u v a b (r.1 ∙ sym r.2) r.0)))
+    let (a, l, e) = from_map (λ b. u ++ b ∷ []) x (up_to n) i in
+    let (b, o, d) = from_map (λ c. v ++ c ∷ []) y (up_to n) j in
+    subst (λ z. word_cmp z y ≡ Less) (sym e) (subst (λ z. word_cmp (u ++ a ∷ []) z ≡ Less) (sym d) (push_less u v a b (r.1 ∙ sym r.2) r.0)))
 
 -- ---- least words and relations of a list, word by word
 

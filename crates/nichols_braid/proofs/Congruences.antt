@@ -1,11 +1,11 @@
 -- Congruence for a linear test: the difference passes the test. It sees values alone, is an equivalence, and is kept by sums and
 -- multiples; so a combination is congruent to one of certain words where each of its words is.
-use Rattle.std.proofs.Common.{◌≡◌, ℕ, Bool, true, false, List, [], ◌∷◌, ◌++◌, map, refl, sym, ◌∙◌, ap}
+use Rattle.std.proofs.Common.{◌≡◌, ℕ, Bool, true, List, [], ◌∷◌, ◌++◌, refl, sym, ◌∙◌, ap}
 use Rattle.std.specs.List.{AllByRecursion}
 use Rattle.nichols_field.specs.Field.{FieldValue, IsField, IsElement, plus, times, negative}
-use Rattle.nichols_field.proofs.FieldLaws.{plus_comm, plus_assoc, times_plus, times_zero, opposite_sum, zero_is_element, times_is_element, plus_zero}
+use Rattle.nichols_field.proofs.FieldLaws.{plus_comm, plus_assoc, times_plus, times_zero, opposite_sum, times_is_element, plus_zero}
 use Rattle.nichols_field.proofs.FieldAlgebra.{zero_plus, one_times, swap_middle, swap_factors, negative_twice}
-use Rattle.nichols_tensor.specs.Combination.{Term, Combination, value_at, HasSameValues, IsZero, AllElements, single, scaled, minus, extended}
+use Rattle.nichols_tensor.specs.Combination.{Combination, value_at, HasSameValues, IsZero, AllElements, single, scaled, minus, extended}
 use Rattle.nichols_tensor.proofs.Values.{value_is_element, value_at-append, value_at-scaled, value_at-minus}
 use Rattle.nichols_tensor.proofs.Linear.{minus_is_zero}
 use Rattle.nichols_tensor.proofs.Over.{all-append, all-scaled}
@@ -114,9 +114,11 @@ reduced_sum : (k : FieldValue) → IsField k → (test : Combination → Bool) �
 reduced_sum k is test l P [] h = ([], tt, congruent_same k is test l [] [] (λ w. refl))
 reduced_sum k is test l P (t ∷ f) h =
     let (g, a, c) = h.0 in
-    let (r, b, d) = reduced_sum k is test l P f h.1 in
-    (scaled k t.coefficient g ++ r, all-append (λ u. P u.word) (scaled k t.coefficient g) r (all-scaled P k t.coefficient g a) b,
-    congruent-append k is test l (scaled k t.coefficient (single t.word)) (scaled k t.coefficient g) (extended k single f) r (congruent-scaled k is test l t.coefficient (single t.word) g c) d)
+    let (r, b, d) = reduced_sum k is test l P f h.1 in (
+      scaled k t.coefficient g ++ r,
+      all-append (λ u. P u.word) (scaled k t.coefficient g) r (all-scaled P k t.coefficient g a) b,
+      congruent-append k is test l (scaled k t.coefficient (single t.word)) (scaled k t.coefficient g) (extended k single f) r (congruent-scaled k is test l t.coefficient (single t.word) g c) d,
+    )
 
 -- a combination is, where each of its words is
 pub reduced_of_each : (k : FieldValue) → IsField k → (test : Combination → Bool) → IsLinearTest k test → (P : List ℕ → Type 0) (f : Combination) → AllByRecursion (λ t. IsReduced k test P (single t.word)) f → IsReduced k test P f

@@ -1,17 +1,16 @@
 -- The least words are independent: a combination of them that passes a linear test is zero.
-use Rattle.std.proofs.Common.{◌≡◌, ◌≢◌, ℕ, Bool, true, false, not, cond, List, [], ◌∷◌, ◌++◌, length, refl, sym, ◌∙◌, ap, subst, nat_eq, ◌⊎◌, inl, inr, append_assoc}
+use Rattle.std.proofs.Common.{◌≡◌, ◌≢◌, ℕ, Bool, true, false, not, cond, List, [], ◌∷◌, ◌++◌, length, refl, sym, ◌∙◌, ap, subst, nat_eq, inl, inr, append_assoc}
 use Rattle.std.proofs.lemmas.List.{append-nil}
 use Rattle.std.proofs.lemmas.Bool.Decides.{Decides-eqb}
-use Rattle.std.specs.declared.cmp.Ordering.TheVariants.{Less}
-use Rattle.nichols_field.specs.Field.{FieldValue, IsField, IsElement, plus, times, negative}
+use Rattle.nichols_field.specs.Field.{FieldValue, IsField, plus, times, negative}
 use Rattle.nichols_field.proofs.FieldLaws.{times_comm, times_assoc, times_plus, times_is_element, has_reciprocal}
 use Rattle.nichols_field.proofs.FieldAlgebra.{zero_plus, zero_times, one_times, negative_twice}
 use Rattle.nichols_tensor.specs.Members.{IsIn}
-use Rattle.nichols_tensor.specs.Combination.{Term, Combination, value_at, HasSameValues, IsZero, AllAmong, single, scaled, minus, extended, same_letters}
-use Rattle.nichols_tensor.specs.Words.{IsWordOver, words, words_before}
-use Rattle.nichols_tensor.specs.WordOrder.{word_cmp, IsRising}
+use Rattle.nichols_tensor.specs.Combination.{Combination, value_at, HasSameValues, IsZero, AllAmong, single, scaled, minus, same_letters}
+use Rattle.nichols_tensor.specs.Words.{IsWordOver, words_before}
+use Rattle.nichols_tensor.specs.WordOrder.{IsRising}
 use Rattle.nichols_tensor.proofs.Entries.{in_either, in_left, in_right}
-use Rattle.nichols_tensor.proofs.Values.{value_is_element, value_at-append, value_at-scaled, value_at-minus, value_at-extended, weight, weight_split, without, same_itself}
+use Rattle.nichols_tensor.proofs.Values.{value_is_element, value_at-scaled, value_at-minus, value_at-extended, weight, weight_split, without, same_itself}
 use Rattle.nichols_tensor.proofs.Linear.{same_from_minus}
 use Rattle.nichols_tensor.proofs.Enumeration.{among_weaker, among-append, among-scaled}
 use Rattle.nichols_tensor.proofs.Rising.{stands_before}
@@ -21,7 +20,7 @@ use Rattle.nichols_braid.specs.Kernel.{Vanishing}
 use Rattle.nichols_braid.specs.Least.{is_least, basis}
 use Rattle.nichols_braid.specs.LinearTest.{IsLinearTest}
 use Rattle.nichols_braid.proofs.Maps.{extended_identity}
-use Rattle.nichols_braid.proofs.Congruences.{AreCongruent, congruent_trans, congruent_sym}
+use Rattle.nichols_braid.proofs.Congruences.{AreCongruent}
 use Rattle.nichols_braid.proofs.LeastWords.{least_refutes_at}
 use Rattle.nichols_braid.proofs.Reduction.{from_basis, basis_rises}
 

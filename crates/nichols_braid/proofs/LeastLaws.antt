@@ -1,17 +1,18 @@
 -- The laws of least words, bases, normal forms and candidates, each as its statement has it.
-use Rattle.std.proofs.Common.{◌≡◌, ℕ, suc, Bool, true, not, List, [], ◌∷◌, map, length, refl, sym, ◌∙◌, ap, subst}
+use Rattle.std.proofs.Common.{◌≡◌, ℕ, suc, true, not, List, [], ◌∷◌, map, length, refl, sym, ◌∙◌, ap, subst}
 use Rattle.std.specs.List.{filter}
-use Rattle.nichols_field.specs.Field.{IsField}
+use Rattle.nichols_tensor.specs.Combination.{Combination}
 use Rattle.nichols_tensor.specs.Words.{IsWordOver}
 use Rattle.nichols_tensor.specs.WordOrder.{IsRising}
 use Rattle.nichols_tensor.proofs.Rising.{rising-filter}
-use Rattle.nichols_braid.specs.Braid.{BraidValue, IsBraid}
-use Rattle.nichols_braid.specs.Kernel.{Vanishing, is_killed}
-use Rattle.nichols_braid.specs.Least.{is_least, basis, candidates, normal_form}
+use Rattle.nichols_braid.specs.Braid.{BraidValue, IsBraid, IsLetter}
+use Rattle.nichols_braid.specs.Kernel.{is_killed}
+use Rattle.nichols_braid.specs.Least.{is_least, candidates}
 use Rattle.nichols_braid.specs.RightProduct.{times_letter}
 use Rattle.nichols_braid.specs.LinearTest.{IsLinearTest}
-use Rattle.nichols_braid.specs.LeastLaws.{LeastWordsAreTested, IsListedIfLeast, BasisHasLeastWords, BasisIsIndependent, NormalFormsAreUnique, NormalFormsTellClasses, ZeroHasNoTerms, NormalFormIsLinear, LeastWordsAreNormal, AgreeingTestsReadAlike, IsRightIdeal, BasisIsAmongCandidates, RelationsRise}
-use Rattle.nichols_braid.proofs.Killed.{is_killed_sound, is_killed_complete, is_killed_is_linear, killed-times_letter}
+use Rattle.nichols_braid.specs.LeastLaws.{LeastWordsAreTested, IsListedIfLeast, BasisHasLeastWords, BasisIsIndependent, NormalFormsAreUnique, NormalFormsTellClasses, ZeroHasNoTerms, NormalFormIsLinear, LeastWordsAreNormal, AgreeingTestsReadAlike, BasisIsAmongCandidates, RelationsRise}
+use Rattle.nichols_braid.proofs.Killed.{is_killed_sound, is_killed_complete, killed-times_letter}
+use Rattle.nichols_braid.proofs.Prefixes.{is_killed_is_ideal}
 use Rattle.nichols_braid.proofs.LeastWords.{least_word_from_test, test_from_least_word}
 use Rattle.nichols_braid.proofs.Reduction.{in_basis, from_basis, basis_rises}
 use Rattle.nichols_braid.proofs.Independence.{basis_is_independent}
@@ -32,8 +33,8 @@ basis_has_least_words vanishes braid is m l = (basis_rises vanishes braid m, lis
       degree = λ i. (from_basis vanishes braid m w i).0;
       over = λ i. (from_basis vanishes braid m w i).1;
       least = λ i.
-      let from : (length w ≡ m) × IsWordOver braid.letters w × (is_least vanishes braid w ≡ true) = from_basis vanishes braid m w i in
-      least_word_from_test vanishes braid is w (subst (λ d. IsLinearTest braid.field (vanishes braid d)) (sym from.0) l) from.2;
+          let from : (length w ≡ m) × IsWordOver braid.letters w × (is_least vanishes braid w ≡ true) = from_basis vanishes braid m w i in
+          least_word_from_test vanishes braid is w (subst (λ d. IsLinearTest braid.field (vanishes braid d)) (sym from.0) l) from.2;
     }
 
 pub least_words_are_independent : BasisIsIndependent
@@ -58,7 +59,7 @@ pub agreeing_tests_read_alike : AgreeingTestsReadAlike
 agreeing_tests_read_alike vanishes other braid agree = read_alike vanishes other braid agree
 
 pub basis_is_among_candidates : BasisIsAmongCandidates
-basis_is_among_candidates vanishes braid is l ideal m = basis_among vanishes braid is m (l m) (candidates vanishes braid m) (candidates_span vanishes braid is l ideal m)
+basis_is_among_candidates vanishes braid is ideal m = basis_among vanishes braid is m (ideal.linear m) (candidates vanishes braid m) (candidates_span vanishes braid is ideal m)
 
 pub relations_rise : RelationsRise
 relations_rise vanishes braid m =
@@ -71,9 +72,9 @@ relations_rise vanishes braid m =
 
 -- ---- what the derivations kill
 
-pub killed_stays_killed : (braid : BraidValue) → IsBraid braid → IsRightIdeal is_killed braid
+pub killed_stays_killed : (braid : BraidValue) → IsBraid braid → (m : ℕ) (f : Combination) (b : ℕ) → IsLetter braid b → is_killed braid m f ≡ true → is_killed braid (suc m) (times_letter f b) ≡ true
 killed_stays_killed braid is m f b letter h =
     is_killed_complete braid (suc m) (times_letter f b) (killed-times_letter braid is.field is.rack m f b letter (is_killed_sound braid is.field m f h))
 
 pub killed_candidates_span : (braid : BraidValue) → IsBraid braid → (m : ℕ) → IsSpanning is_killed braid m (candidates is_killed braid m)
-killed_candidates_span braid is m = candidates_span is_killed braid is.field (is_killed_is_linear braid is.field) (killed_stays_killed braid is) m
+killed_candidates_span braid is m = candidates_span is_killed braid is.field (is_killed_is_ideal braid is.field is.rack) m

@@ -1,11 +1,10 @@
 -- A word is least exactly where no combination of the words of its length before it is congruent to it.
-use Rattle.std.proofs.Common.{◌≡◌, ℕ, Bool, true, false, not, List, [], ◌∷◌, map, length, refl, sym, ◌∙◌, ap, subst}
+use Rattle.std.proofs.Common.{◌≡◌, ℕ, Bool, true, false, not, List, [], ◌∷◌, length, refl, sym, ◌∙◌, ap, subst}
 use Rattle.std.specs.List.{AllByRecursion}
 use Rattle.std.specs.declared.cmp.Ordering.TheVariants.{Less}
-use Rattle.nichols_field.specs.Field.{FieldValue, IsField}
-use Rattle.nichols_tensor.specs.Members.{IsIn}
-use Rattle.nichols_tensor.specs.Combination.{Term, Combination, HasSameValues, AllElements, AllAmong, single, minus}
-use Rattle.nichols_tensor.specs.Words.{IsWordOver, IsOver, HasDegree, words_before, combinations}
+use Rattle.nichols_field.specs.Field.{IsField}
+use Rattle.nichols_tensor.specs.Combination.{Combination, AllElements, AllAmong, single}
+use Rattle.nichols_tensor.specs.Words.{IsOver, HasDegree, words_before, combinations}
 use Rattle.nichols_tensor.specs.WordOrder.{word_cmp}
 use Rattle.nichols_tensor.proofs.Entries.{any_of, some_of}
 use Rattle.nichols_tensor.proofs.Enumeration.{enumerated, enumerated_words, enumerated_elements, among_from_words}

@@ -4,6 +4,7 @@ pub mod Entries
 pub mod Search
 pub mod Accepted
 pub mod Made
+pub mod Lists
 pub mod Maps
 pub mod Rule
 pub mod Letters
@@ -12,9 +13,9 @@ pub mod BraidLaws
 pub mod Rearranged
 pub mod Counts
 pub mod Permutations
-pub mod Lists
 pub mod WordLists
 pub mod Degrees
+pub mod Prefixes
 pub mod Congruences
 pub mod LeastWords
 pub mod Reduction
@@ -25,3 +26,5 @@ pub mod Agreement
 pub mod Spanning
 pub mod Rows
 pub mod LeastLaws
+pub mod Functionals
+pub mod FirstDegree

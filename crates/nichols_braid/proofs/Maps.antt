@@ -89,7 +89,7 @@ same_commuted k is f g w = value_at-append k is f g w ∙ plus_comm k (value_at 
 -- ---- the map that keeps each word, and that which puts a letter behind
 
 -- c and c 1 are alike in a sum
-plus_times_one : (k : FieldValue) → IsField k → (c n : ℕ) → IsElement k n → plus k (times k c 1) n ≡ plus k c n
+pub plus_times_one : (k : FieldValue) → IsField k → (c n : ℕ) → IsElement k n → plus k (times k c 1) n ≡ plus k c n
 plus_times_one k is c n e =
     ap (λ m. plus k m n) (times_comm k c 1) ∙ ap (plus k (times k 1 c)) (sym (one_times k n e)) ∙ sym (times_plus k 1 c n) ∙ one_times k (plus k c n) (plus_is_element k c n is)
 

@@ -1,13 +1,12 @@
 -- Normal forms: each combination of words of m letters has exactly one, which sees the class alone and is linear.
-use Rattle.std.proofs.Common.{◌≡◌, ◌≢◌, ℕ, Bool, true, false, List, [], ◌∷◌, ◌++◌, length, refl, sym, ◌∙◌, ap, subst}
-use Rattle.std.specs.Prelude.{Option, Some, None, unwrap_or, find}
-use Rattle.std.specs.List.{AllByRecursion}
-use Rattle.nichols_field.specs.Field.{FieldValue, IsField, negative}
+use Rattle.std.proofs.Common.{◌≡◌, ◌≢◌, ℕ, Bool, true, List, [], ◌++◌, length, refl, sym, ap, subst}
+use Rattle.std.specs.Prelude.{unwrap_or}
+use Rattle.nichols_field.specs.Field.{FieldValue, IsField}
 use Rattle.nichols_field.proofs.FieldLaws.{one_is_element}
 use Rattle.nichols_tensor.specs.Members.{IsIn}
-use Rattle.nichols_tensor.specs.Combination.{Combination, HasSameValues, AllElements, AllNonzero, AllAmong, words_of, single, scaled, minus, without_zeros}
-use Rattle.nichols_tensor.specs.Words.{IsWordOver, IsOver, HasDegree, words, combinations}
-use Rattle.nichols_tensor.specs.WordOrder.{IsRising, IsOrdered}
+use Rattle.nichols_tensor.specs.Combination.{Combination, HasSameValues, AllElements, AllAmong, words_of, single, scaled, without_zeros}
+use Rattle.nichols_tensor.specs.Words.{IsWordOver, IsOver, HasDegree, combinations}
+use Rattle.nichols_tensor.specs.WordOrder.{IsRising}
 use Rattle.nichols_tensor.proofs.Entries.{found, finds}
 use Rattle.nichols_tensor.proofs.Enumeration.{enumerated, enumerated_words, enumerated_elements, among_from_words, among-append, among-scaled}
 use Rattle.nichols_tensor.proofs.Ordered.{ordered_unique}
@@ -17,11 +16,11 @@ use Rattle.nichols_tensor.proofs.AllWords.{among_words}
 use Rattle.nichols_tensor.proofs.Tests.{find_same, same_answer}
 use Rattle.nichols_braid.specs.Braid.{BraidValue}
 use Rattle.nichols_braid.specs.Kernel.{Vanishing}
-use Rattle.nichols_braid.specs.Least.{are_congruent, is_least, basis, normal_form}
+use Rattle.nichols_braid.specs.Least.{are_congruent, basis, normal_form}
 use Rattle.nichols_braid.specs.LinearTest.{IsLinearTest}
 use Rattle.nichols_braid.specs.LeastLaws.{IsNormalForm, IsLinearOnDegree}
 use Rattle.nichols_braid.proofs.Congruences.{AreCongruent, congruent_same, congruent_sym, congruent_trans, congruent_right, congruent_zero, zero_congruent, congruent-append, congruent-scaled}
-use Rattle.nichols_braid.proofs.Reduction.{from_basis, basis_rises, reduced_to_basis}
+use Rattle.nichols_braid.proofs.Reduction.{basis_rises, reduced_to_basis}
 use Rattle.nichols_braid.proofs.Independence.{same_on_basis}
 
 -- ---- the form that the search finds

@@ -15,6 +15,7 @@ use Rattle.nichols_tensor.proofs.Entries.{in_map, from_map, in_flat_map, from_fl
 use Rattle.nichols_tensor.proofs.Values.{same_itself}
 use Rattle.nichols_braid.specs.Symmetrizer.{permutations}
 use Rattle.nichols_braid.specs.Rearrangement.{IsRearrangement, HoldsEachOnce}
+use Rattle.nichols_braid.proofs.Lists.{first_is_in, all_from_in}
 use Rattle.nichols_braid.proofs.Letters.{in_up_to, from_up_to}
 use Rattle.nichols_braid.proofs.Rearranged.{rearranged_length, rearranged_bounds, up_to_distinct}
 use Rattle.nichols_braid.proofs.Counts.{in_front_and_rest, rearranged_tails}
@@ -41,10 +42,6 @@ pub insert_between : (front rest : List ℕ) (y : ℕ) → insert (front ++ rest
 insert_between [] [] y = refl
 insert_between [] (x ∷ rest) y = refl
 insert_between (x ∷ front) rest y = ap (λ r. x ∷ r) (insert_between front rest y)
-
-first_is_in : (n : ℕ) (xs : List ℕ) → IsIn n (n ∷ xs)
-unfolding IsIn
-first_is_in n xs = inl refl
 
 last_is_listed : (m : ℕ) → Contains (up_to (suc m)) (suc m)
 last_is_listed m = Contains-append_right (up_to m) (suc m ∷ []) (suc m) (contains_from_in (suc m ∷ []) (suc m) (first_is_in (suc m) []))
@@ -160,16 +157,11 @@ permutations_distinct (suc m) =
         let second : IsLetterOf (suc m) j = from_up_to (suc m) j b in
         apart i j first second e f
 
-from_in : {X : Type 0} (P : X → Type 0) (xs : List X) → ((x : X) → IsIn x xs → P x) → AllByRecursion P xs
-unfolding IsIn
-from_in P [] h = tt
-from_in P (x ∷ xs) h = (h x (inl refl), from_in P xs (λ y i. h y (inr i)))
-
 -- ---- all three
 
 pub permutations_hold_each_once : (m : ℕ) → HoldsEachOnce m (permutations m)
 permutations_hold_each_once m = record {
-  rearrangements = All-from_recursion (IsRearrangement m) (permutations m) (from_in (IsRearrangement m) (permutations m) (listed_is_rearrangement m));
+  rearrangements = All-from_recursion (IsRearrangement m) (permutations m) (all_from_in (IsRearrangement m) (permutations m) (listed_is_rearrangement m));
   each = λ ends h. contains_from_in (permutations m) ends (rearrangement_is_listed m ends h);
   once = permutations_distinct m;
 }

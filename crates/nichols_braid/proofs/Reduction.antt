@@ -1,6 +1,6 @@
 -- The least words span: each combination of words of m letters is congruent to one of least words, and a word to one of least
 -- words that don't stand behind it.
-use Rattle.std.proofs.Common.{◌≡◌, ℕ, Bool, true, false, List, [], ◌∷◌, length, refl, sym, ◌∙◌, ap, ◌⊎◌, inl, inr}
+use Rattle.std.proofs.Common.{◌≡◌, ℕ, Bool, true, false, List, [], ◌∷◌, length, refl, ◌∙◌, ap, ◌⊎◌, inl, inr}
 use Rattle.std.specs.List.{AllByRecursion}
 use Rattle.std.specs.declared.cmp.Ordering.TheVariants.{Less}
 use Rattle.nichols_field.specs.Field.{FieldValue, IsField}
@@ -110,6 +110,8 @@ reduced_to_basis vanishes braid is m l f among =
   where
     each : (f : Combination) → AllAmong f (words braid.letters m) → AllByRecursion (λ t. IsReduced braid.field (vanishes braid m) (λ v. IsIn v (basis vanishes braid m)) (single t.word)) f
     each [] h = tt
-    each (t ∷ f) h =
-        (reduced_weaker braid.field (vanishes braid m) (λ v. IsIn v (basis vanishes braid m) × IsUpTo t.word v) (λ v. IsIn v (basis vanishes braid m)) (single t.word) (λ v p. p.0)
-        (reduced_word vanishes braid is m l t.word h.0), each f h.1)
+    each (t ∷ f) h = (
+      reduced_weaker braid.field (vanishes braid m) (λ v. IsIn v (basis vanishes braid m) × IsUpTo t.word v) (λ v. IsIn v (basis vanishes braid m)) (single t.word) (λ v p. p.0)
+          (reduced_word vanishes braid is m l t.word h.0),
+      each f h.1,
+    )

@@ -1,18 +1,18 @@
 -- Rows of numbers that tell which combinations of a list's words are zero in the algebra: a word of the list is least exactly where
 -- its row is no combination of the rows before it, and such a combination of least words' rows is its normal form.
-use Rattle.std.proofs.Common.{◌≡◌, ◌≢◌, ℕ, zero, suc, ◌<◌, Bool, true, false, List, [], ◌∷◌, ◌++◌, map, length, refl, sym, ◌∙◌, ap, subst, arith, ◌⊎◌, inl, inr}
+use Rattle.std.proofs.Common.{◌≡◌, ℕ, ◌<◌, Bool, true, false, List, [], ◌∷◌, length, refl, sym, ◌∙◌, ap, subst, arith}
 use Rattle.std.specs.List.{AllByRecursion}
 use Rattle.std.specs.declared.cmp.Ordering.TheVariants.{Less}
 use Rattle.nichols_field.specs.Field.{FieldValue, IsField, IsElement, plus, times, negative}
 use Rattle.nichols_field.proofs.FieldLaws.{plus_zero, one_is_element}
 use Rattle.nichols_field.proofs.FieldAlgebra.{one_times, difference_of_same, same_from_difference}
 use Rattle.nichols_tensor.specs.Members.{IsIn}
-use Rattle.nichols_tensor.specs.Combination.{Term, Combination, AllElements, AllNonzero, AllAmong, words_of, single, scaled, minus}
+use Rattle.nichols_tensor.specs.Combination.{Combination, AllElements, AllNonzero, AllAmong, words_of, single, scaled, minus}
 use Rattle.nichols_tensor.specs.Positions.{word_at}
-use Rattle.nichols_tensor.specs.Words.{IsWordOver, words_before}
-use Rattle.nichols_tensor.specs.WordOrder.{word_cmp, IsBelowFirst, IsRising, IsOrdered}
+use Rattle.nichols_tensor.specs.Words.{words_before}
+use Rattle.nichols_tensor.specs.WordOrder.{word_cmp, IsBelowFirst, IsRising}
 use Rattle.nichols_tensor.proofs.Values.{weight, weight_is_element, weight-append, weight-scaled}
-use Rattle.nichols_tensor.proofs.Enumeration.{among-append, among-scaled, among_weaker}
+use Rattle.nichols_tensor.proofs.Enumeration.{among-append, among-scaled}
 use Rattle.nichols_tensor.proofs.Building.{elements-append, elements-scaled}
 use Rattle.nichols_tensor.proofs.Rising.{word_at_is_in, position_of, words_at_rise, position_below}
 use Rattle.nichols_tensor.proofs.AllWords.{in_words_before}
@@ -20,10 +20,9 @@ use Rattle.nichols_braid.specs.Braid.{BraidValue}
 use Rattle.nichols_braid.specs.Kernel.{Vanishing}
 use Rattle.nichols_braid.specs.Least.{is_least, basis, normal_form}
 use Rattle.nichols_braid.specs.LinearTest.{IsLinearTest}
-use Rattle.nichols_braid.specs.LeastLaws.{IsNormalForm}
 use Rattle.nichols_braid.specs.Rows.{Cell, made, columns_of, AreRising, AllCellsBelow, AllCellsNonzero, AllCellsElements, combined_numbers}
 use Rattle.nichols_braid.specs.Rows.{IsBelowFirst as IsColumnBelow}
-use Rattle.nichols_braid.proofs.Congruences.{AreCongruent, IsReduced, reduced_with_elements}
+use Rattle.nichols_braid.proofs.Congruences.{AreCongruent, reduced_with_elements}
 use Rattle.nichols_braid.proofs.LeastWords.{not_least_at}
 use Rattle.nichols_braid.proofs.Reduction.{in_basis}
 use Rattle.nichols_braid.proofs.NormalForms.{form_is}
@@ -59,8 +58,8 @@ pub congruent_by_rows : (k : FieldValue) → IsField k → (test : Combination �
 congruent_by_rows k is test ws φ functionals w f i a same =
     functionals.complete (minus k (single w) f) (difference_among k w f ws i a) (difference_elements k is w f)
     (λ c.
-      weight_difference k is (φ c) w f (functionals.elements c w i) ∙ ap (λ n. plus k n (times k (negative k 1) (weight k (φ c) f))) (same c)
-      ∙ difference_of_same k (weight k (φ c) f) is)
+    weight_difference k is (φ c) w f (functionals.elements c w i) ∙ ap (λ n. plus k n (times k (negative k 1) (weight k (φ c) f))) (same c)
+    ∙ difference_of_same k (weight k (φ c) f) is)
 
 -- and the other way round
 pub rows_of_congruent : (k : FieldValue) → IsField k → (test : Combination → Bool) (ws : List (List ℕ)) (φ : ℕ → List ℕ → ℕ) → AreFunctionals k test ws φ →
@@ -111,11 +110,12 @@ cells_of : (k : FieldValue) (ws : List (List ℕ)) → IsRising ws → (i : ℕ)
 cells_of k ws r i within [] e h = ([], tt, tt, refl)
 cells_of k ws r i within (t ∷ f) e h =
     let (j, less, same) = position_of ws t.word h.0.0 in
-    let (cells, below, elements, all) = cells_of k ws r i within f e.1 h.1 in
-    (record { column = j; coefficient = t.coefficient } ∷ cells,
-    (position_below ws j i r less within (ap (λ w. word_cmp w (word_at ws i)) same ∙ h.0.1), below),
-    (e.0, elements),
-    ap (λ w. record { word = w; coefficient = t.coefficient } ∷ made ws cells) same ∙ ap (λ g. t ∷ g) all)
+    let (cells, below, elements, all) = cells_of k ws r i within f e.1 h.1 in (
+      record { column = j; coefficient = t.coefficient } ∷ cells,
+      (position_below ws j i r less within (ap (λ w. word_cmp w (word_at ws i)) same ∙ h.0.1), below),
+      (e.0, elements),
+      ap (λ w. record { word = w; coefficient = t.coefficient } ∷ made ws cells) same ∙ ap (λ g. t ∷ g) all,
+    )
 
 -- ---- least words by rows
 
@@ -125,9 +125,11 @@ made_before : (vanishes : Vanishing) (braid : BraidValue) (m : ℕ) (ws : List (
 unfolding AllAmong
 made_before vanishes braid m ws s i within [] below = tt
 made_before vanishes braid m ws s i within (c ∷ cells) below =
-    let here : IsIn (word_at ws c.column) ws = word_at_is_in ws c.column (omega (arith, below.0)) in
-    (in_words_before braid.letters (word_at ws c.column) (word_at ws i) (s.degree (word_at ws c.column) here ∙ sym (s.degree (word_at ws i) (word_at_is_in ws i within))) (s.over (word_at ws c.column) here)
-    (words_at_rise ws c.column i s.rising below.0 within), made_before vanishes braid m ws s i within cells below.1)
+    let here : IsIn (word_at ws c.column) ws = word_at_is_in ws c.column (omega (arith, below.0)) in (
+      in_words_before braid.letters (word_at ws c.column) (word_at ws i) (s.degree (word_at ws c.column) here ∙ sym (s.degree (word_at ws i) (word_at_is_in ws i within))) (s.over (word_at ws c.column) here)
+          (words_at_rise ws c.column i s.rising below.0 within),
+      made_before vanishes braid m ws s i within cells below.1,
+    )
 
 -- a word whose row is a combination of the rows before it isn't least
 pub dependent_is_not_least : (vanishes : Vanishing) (braid : BraidValue) → IsField braid.field → (m : ℕ) → IsLinearTest braid.field (vanishes braid m) → (ws : List (List ℕ)) → IsSpanning vanishes braid m ws →
@@ -147,11 +149,14 @@ not_least_is_dependent vanishes braid is m l ws s φ functionals i within least 
     let w : List ℕ = word_at ws i in
     let here : IsIn w ws = word_at_is_in ws i within in
     let (f, a, elements, h) = reduced_with_elements k is (vanishes braid m) l (λ v. IsIn v ws × (word_cmp v w ≡ Less)) (single w)
-      (reduced_to_earlier_entries vanishes braid is m l ws s w (s.degree w here) least) in
-    let (cells, below, cell_elements, all) = cells_of k ws s.rising i within f elements a in
-    (cells, below, cell_elements,
-    λ c. rows_of_congruent k is (vanishes braid m) ws φ functionals w (made ws cells) here (made_among ws cells (below_more i (length ws) within cells below))
-    (subst (AreCongruent k (vanishes braid m) (single w)) (sym all) h) c)
+    (reduced_to_earlier_entries vanishes braid is m l ws s w (s.degree w here) least) in
+    let (cells, below, cell_elements, all) = cells_of k ws s.rising i within f elements a in (
+      cells,
+      below,
+      cell_elements,
+      λ c. rows_of_congruent k is (vanishes braid m) ws φ functionals w (made ws cells) here (made_among ws cells (below_more i (length ws) within cells below))
+          (subst (AreCongruent k (vanishes braid m) (single w)) (sym all) h) c,
+    )
 
 -- so a word whose row is no combination of the rows before it is least
 pub independent_is_least : (vanishes : Vanishing) (braid : BraidValue) → IsField braid.field → (m : ℕ) → IsLinearTest braid.field (vanishes braid m) → (ws : List (List ℕ)) → IsSpanning vanishes braid m ws →
@@ -192,3 +197,43 @@ form_by_rows vanishes braid is m l ws s φ functionals i within cells below elem
       elements = made_elements braid.field ws cells elements;
       congruent = congruent_by_rows braid.field is (vanishes braid m) ws φ functionals (word_at ws i) (made ws cells) (word_at_is_in ws i within) (made_among ws cells all_below) same;
     })
+
+-- ---- the same for rows that are given by numbers
+
+-- the number of each column and each position is that of the word at the position
+abbrev pub AreNumbersOf : List (List ℕ) → (ℕ → List ℕ → ℕ) → (ℕ → ℕ → ℕ) → Type 0
+AreNumbersOf ws φ number = (c i : ℕ) → i < length ws → number c i ≡ φ c (word_at ws i)
+
+-- in each column the number of position i is this combination of the numbers before it
+abbrev pub IsCombinedAt : FieldValue → (ℕ → ℕ → ℕ) → ℕ → List Cell → Type 0
+IsCombinedAt k number i cells = (c : ℕ) → number c i ≡ combined_numbers k (number c) cells
+
+rows_from_numbers : (k : FieldValue) (ws : List (List ℕ)) (φ : ℕ → List ℕ → ℕ) (number : ℕ → ℕ → ℕ) → AreNumbersOf ws φ number → (i : ℕ) → i < length ws → (cells : List Cell) → AllCellsBelow i cells →
+    IsCombinedAt k number i cells → (c : ℕ) → φ c (word_at ws i) ≡ weight k (φ c) (made ws cells)
+rows_from_numbers k ws φ number numbers i within cells below same c =
+    sym (numbers c i within) ∙ same c ∙ weight-made k (φ c) ws (number c) (length ws) (numbers c) cells (below_more i (length ws) within cells below)
+
+numbers_from_rows : (k : FieldValue) (ws : List (List ℕ)) (φ : ℕ → List ℕ → ℕ) (number : ℕ → ℕ → ℕ) → AreNumbersOf ws φ number → (i : ℕ) → i < length ws → (cells : List Cell) → AllCellsBelow i cells →
+    ((c : ℕ) → φ c (word_at ws i) ≡ weight k (φ c) (made ws cells)) → IsCombinedAt k number i cells
+numbers_from_rows k ws φ number numbers i within cells below same c =
+    numbers c i within ∙ same c ∙ sym (weight-made k (φ c) ws (number c) (length ws) (numbers c) cells (below_more i (length ws) within cells below))
+
+pub combined_row_is_not_least : (vanishes : Vanishing) (braid : BraidValue) → IsField braid.field → (m : ℕ) → IsLinearTest braid.field (vanishes braid m) → (ws : List (List ℕ)) → IsSpanning vanishes braid m ws →
+    (φ : ℕ → List ℕ → ℕ) → AreFunctionals braid.field (vanishes braid m) ws φ → (number : ℕ → ℕ → ℕ) → AreNumbersOf ws φ number → (i : ℕ) → i < length ws → (cells : List Cell) → AllCellsBelow i cells →
+    IsCombinedAt braid.field number i cells → is_least vanishes braid (word_at ws i) ≡ false
+combined_row_is_not_least vanishes braid is m l ws s φ functionals number numbers i within cells below same =
+    dependent_is_not_least vanishes braid is m l ws s φ functionals i within cells below (rows_from_numbers braid.field ws φ number numbers i within cells below same)
+
+pub uncombined_row_is_least : (vanishes : Vanishing) (braid : BraidValue) → IsField braid.field → (m : ℕ) → IsLinearTest braid.field (vanishes braid m) → (ws : List (List ℕ)) → IsSpanning vanishes braid m ws →
+    (φ : ℕ → List ℕ → ℕ) → AreFunctionals braid.field (vanishes braid m) ws φ → (number : ℕ → ℕ → ℕ) → AreNumbersOf ws φ number → (i : ℕ) → i < length ws →
+    ((cells : List Cell) → AllCellsBelow i cells → AllCellsElements braid.field cells → IsCombinedAt braid.field number i cells → ⊥) → is_least vanishes braid (word_at ws i) ≡ true
+uncombined_row_is_least vanishes braid is m l ws s φ functionals number numbers i within none =
+    independent_is_least vanishes braid is m l ws s φ functionals i within
+    (λ cells below elements same. none cells below elements (numbers_from_rows braid.field ws φ number numbers i within cells below same))
+
+pub form_of_combined_row : (vanishes : Vanishing) (braid : BraidValue) → IsField braid.field → (m : ℕ) → IsLinearTest braid.field (vanishes braid m) → (ws : List (List ℕ)) → IsSpanning vanishes braid m ws →
+    (φ : ℕ → List ℕ → ℕ) → AreFunctionals braid.field (vanishes braid m) ws φ → (number : ℕ → ℕ → ℕ) → AreNumbersOf ws φ number → (i : ℕ) → i < length ws → (cells : List Cell) → AllCellsBelow i cells →
+    AllCellsElements braid.field cells → AllCellsNonzero cells → AreRising (columns_of cells) → AllCellsLeast vanishes braid ws cells → IsCombinedAt braid.field number i cells →
+    normal_form vanishes braid m (single (word_at ws i)) ≡ made ws cells
+form_of_combined_row vanishes braid is m l ws s φ functionals number numbers i within cells below elements nonzero up least same =
+    form_by_rows vanishes braid is m l ws s φ functionals i within cells below elements nonzero up least (rows_from_numbers braid.field ws φ number numbers i within cells below same)

@@ -27,10 +27,11 @@ unfolding prefixed
 prefixed-passed braid a b x [] = refl
 prefixed-passed braid a b x (t ∷ ts) = ap (λ r. passed braid a b (prefixed x t) ∷ r) (prefixed-passed braid a b x ts)
 
-here : Bool → Term → Combination
+-- a term, where the test says so
+unfoldable pub here : Bool → Term → Combination
 here c t = if c then t ∷ [] else []
 
-map-here : (f : Term → Term) (c : Bool) (t : Term) → map f (here c t) ≡ here c (f t)
+pub map-here : (f : Term → Term) (c : Bool) (t : Term) → map f (here c t) ≡ here c (f t)
 unfolding here
 map-here f true t = refl
 map-here f false t = refl

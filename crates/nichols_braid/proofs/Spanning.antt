@@ -1,12 +1,12 @@
 -- Lists of words that span by words that aren't behind: all words of a degree, and the candidates where the test is a right ideal.
 -- The least words are entries of each such list.
-use Rattle.std.proofs.Common.{◌≡◌, ℕ, zero, suc, ◌+◌, Bool, true, false, List, [], ◌∷◌, ◌++◌, map, length, refl, sym, ◌∙◌, ap, subst, arith, ◌⊎◌, inl, inr, length-append}
-use Rattle.std.specs.List.{filter, AllByRecursion}
+use Rattle.std.proofs.Common.{◌≡◌, ℕ, zero, suc, ◌+◌, true, false, List, [], ◌∷◌, ◌++◌, length, refl, sym, ◌∙◌, ap, subst, arith, inl, inr, length-append}
+use Rattle.std.specs.List.{AllByRecursion}
 use Rattle.std.specs.declared.cmp.Ordering.TheVariants.{Less}
 use Rattle.nichols_field.specs.Field.{FieldValue, IsField, negative}
 use Rattle.nichols_tensor.specs.Members.{IsIn}
-use Rattle.nichols_tensor.specs.Combination.{Term, Combination, AllElements, AllAmong, single, scaled, minus}
-use Rattle.nichols_tensor.specs.Words.{IsWordOver, words, words_before}
+use Rattle.nichols_tensor.specs.Combination.{Combination, AllAmong, single, scaled, minus}
+use Rattle.nichols_tensor.specs.Words.{IsWordOver, IsOver, HasDegree, words, words_before}
 use Rattle.nichols_tensor.specs.WordOrder.{word_cmp, IsRising}
 use Rattle.nichols_tensor.proofs.Entries.{in_filter, from_filter}
 use Rattle.nichols_tensor.proofs.Ordered.{is_in_or_not}
@@ -18,9 +18,10 @@ use Rattle.nichols_braid.specs.Kernel.{Vanishing}
 use Rattle.nichols_braid.specs.Least.{is_least, basis, candidates}
 use Rattle.nichols_braid.specs.RightProduct.{times_letter}
 use Rattle.nichols_braid.specs.LinearTest.{IsLinearTest}
-use Rattle.nichols_braid.specs.LeastLaws.{IsRightIdeal}
+use Rattle.nichols_braid.specs.IdealTest.{IsIdealTest}
 use Rattle.nichols_braid.proofs.Maps.{times_letter-append, times_letter-scaled}
-use Rattle.nichols_braid.proofs.Congruences.{AreCongruent, IsReduced, reduced_of_each, reduced_weaker, reduced_itself}
+use Rattle.nichols_braid.proofs.Degrees.{minus_degree, minus_over}
+use Rattle.nichols_braid.proofs.Congruences.{IsReduced, reduced_of_each, reduced_weaker, reduced_itself}
 use Rattle.nichols_braid.proofs.LeastWords.{least_refutes_at}
 use Rattle.nichols_braid.proofs.Reduction.{IsUpTo, in_basis, from_basis, basis_rises, reduced_word, reduced_before_from}
 use Rattle.nichols_braid.proofs.Candidates.{in_candidates, from_candidates, candidates_rise, candidates_first, least_of}
@@ -61,13 +62,24 @@ split_last (suc m) (a ∷ c ∷ v) e = let (u, b, d) = split_last m (c ∷ v) (o
 times_letter-minus : (k : FieldValue) (f g : Combination) (b : ℕ) → times_letter (minus k f g) b ≡ minus k (times_letter f b) (times_letter g b)
 times_letter-minus k f g b = times_letter-append f (scaled k (negative k 1) g) b ∙ ap (λ h. times_letter f b ++ h) (times_letter-scaled k (negative k 1) g b)
 
-with_letter : (vanishes : Vanishing) (braid : BraidValue) → IsRightIdeal vanishes braid → (m : ℕ) (u : List ℕ) (b : ℕ) → length u ≡ m → IsLetter braid b →
+with_letter : (vanishes : Vanishing) (braid : BraidValue) → IsIdealTest braid (vanishes braid) → (m : ℕ) (u : List ℕ) (b : ℕ) → length u ≡ m → IsWordOver braid.letters u → IsLetter braid b →
     IsReduced braid.field (vanishes braid m) (λ v. IsIn v (basis vanishes braid m) × IsUpTo u v) (single u) →
     IsReduced braid.field (vanishes braid (suc m)) (λ v. IsIn v (candidates vanishes braid (suc m)) × IsUpTo (u ++ b ∷ []) v) (single (u ++ b ∷ []))
-with_letter vanishes braid ideal m u b e letter (g, a, c) =
-    (times_letter g b, each g a,
-    subst (λ h. vanishes braid (suc m) h ≡ true) (times_letter-minus braid.field (single u) g b) (ideal m (minus braid.field (single u) g) b letter c))
+with_letter vanishes braid ideal m u b e o letter (g, a, c) = (
+  times_letter g b,
+  each g a,
+  subst (λ h. vanishes braid (suc m) h ≡ true) (times_letter-minus braid.field (single u) g b)
+      (ideal.right m (minus braid.field (single u) g) b (minus_degree braid.field m (single u) g (e, tt) (degree g a)) (minus_over braid.field braid.letters (single u) g (o, tt) (over g a)) letter c),
+)
   where
+    degree : (g : Combination) → AllByRecursion (λ t. IsIn t.word (basis vanishes braid m) × IsUpTo u t.word) g → HasDegree m g
+    degree [] h = tt
+    degree (t ∷ g) h = ((from_basis vanishes braid m t.word h.0.0).0, degree g h.1)
+
+    over : (g : Combination) → AllByRecursion (λ t. IsIn t.word (basis vanishes braid m) × IsUpTo u t.word) g → IsOver braid.letters g
+    over [] h = tt
+    over (t ∷ g) h = ((from_basis vanishes braid m t.word h.0.0).1, over g h.1)
+
     at : (v : List ℕ) → length v ≡ m → IsUpTo u v → IsUpTo (u ++ b ∷ []) (v ++ b ∷ [])
     at v d (inl same) = inl (ap (λ x. x ++ b ∷ []) same)
     at v d (inr less) = inr (push_less v u b b (d ∙ sym e) less)
@@ -77,9 +89,9 @@ with_letter vanishes braid ideal m u b e letter (g, a, c) =
     each (t ∷ g) h = ((in_candidates vanishes braid m t.word b h.0.0 letter, at t.word (from_basis vanishes braid m t.word h.0.0).0 h.0.1), each g h.1)
 
 -- the candidates span, where a combination that is zero stays so with each letter behind
-pub candidates_span : (vanishes : Vanishing) (braid : BraidValue) → IsField braid.field → ((d : ℕ) → IsLinearTest braid.field (vanishes braid d)) → IsRightIdeal vanishes braid → (m : ℕ) → IsSpanning vanishes braid m (candidates vanishes braid m)
+pub candidates_span : (vanishes : Vanishing) (braid : BraidValue) → IsField braid.field → IsIdealTest braid (vanishes braid) → (m : ℕ) → IsSpanning vanishes braid m (candidates vanishes braid m)
 unfolding IsIn
-candidates_span vanishes braid is l ideal m = record {
+candidates_span vanishes braid is ideal m = record {
   rising = candidates_rise vanishes braid m;
   degree = λ w i. (from_candidates vanishes braid m w i).0;
   over = λ w i. (from_candidates vanishes braid m w i).1;
@@ -88,7 +100,7 @@ candidates_span vanishes braid is l ideal m = record {
   where
     spans : (m : ℕ) (v : List ℕ) → length v ≡ m → IsWordOver braid.letters v → IsReduced braid.field (vanishes braid m) (λ u. IsIn u (candidates vanishes braid m) × IsUpTo v u) (single v)
     spans zero [] e o =
-        reduced_itself braid.field is (vanishes braid 0) (l 0) (λ u. IsIn u (candidates vanishes braid 0) × IsUpTo [] u) [] (subst (IsIn []) (sym (candidates_first vanishes braid)) (inl refl), inl refl)
+        reduced_itself braid.field is (vanishes braid 0) (ideal.linear 0) (λ u. IsIn u (candidates vanishes braid 0) × IsUpTo [] u) [] (subst (IsIn []) (sym (candidates_first vanishes braid)) (inl refl), inl refl)
     spans zero (a ∷ v) e o = absurd (omega arith)
     spans (suc m) v e o =
         let (u, b, d) = split_last m v e in
@@ -97,8 +109,8 @@ candidates_span vanishes braid is l ideal m = record {
         let size : length u + 1 ≡ suc m = sym (length-append u (b ∷ [])) ∙ ap length (sym d) ∙ e in
         let short : length u ≡ m = omega arith in
         subst (λ x. IsReduced braid.field (vanishes braid (suc m)) (λ y. IsIn y (candidates vanishes braid (suc m)) × IsUpTo x y) (single x)) (sym d)
-        (with_letter vanishes braid ideal m u b short last.0
-        (reduced_word vanishes braid is m (l m) u (in_words braid.letters m u short (word_over_front braid.letters u (b ∷ []) whole))))
+        (with_letter vanishes braid ideal m u b short (word_over_front braid.letters u (b ∷ []) whole) last.0
+        (reduced_word vanishes braid is m (ideal.linear m) u (in_words braid.letters m u short (word_over_front braid.letters u (b ∷ []) whole))))
 
 -- ---- least words are entries
 
@@ -126,8 +138,8 @@ pub basis_among : (vanishes : Vanishing) (braid : BraidValue) → IsField braid.
 basis_among vanishes braid is m l ws s =
     rising_unique (basis vanishes braid m) (least_of vanishes braid ws) (basis_rises vanishes braid m) (rising-filter (is_least vanishes braid) ws s.rising)
     (λ w i.
-      let from : (length w ≡ m) × IsWordOver braid.letters w × (is_least vanishes braid w ≡ true) = from_basis vanishes braid m w i in
-      in_filter (is_least vanishes braid) w ws (least_is_listed vanishes braid is m l ws s w from.0 from.1 from.2) from.2)
+    let from : (length w ≡ m) × IsWordOver braid.letters w × (is_least vanishes braid w ≡ true) = from_basis vanishes braid m w i in
+    in_filter (is_least vanishes braid) w ws (least_is_listed vanishes braid is m l ws s w from.0 from.1 from.2) from.2)
     (λ w i. let (j, least) = from_filter (is_least vanishes braid) w ws i in in_basis vanishes braid m w (s.degree w j) (s.over w j) least)
 
 -- ---- reduction to the entries
@@ -146,6 +158,8 @@ reduced_to_entries vanishes braid is m l ws s f among = reduced_of_each braid.fi
   where
     each : (f : Combination) → AllAmong f (words braid.letters m) → AllByRecursion (λ t. IsReduced braid.field (vanishes braid m) (λ v. IsIn v ws) (single t.word)) f
     each [] h = tt
-    each (t ∷ f) h =
-        (reduced_weaker braid.field (vanishes braid m) (λ v. IsIn v ws × IsUpTo t.word v) (λ v. IsIn v ws) (single t.word) (λ v p. p.0)
-        (s.spans t.word (from_words braid.letters m t.word h.0).0 (from_words braid.letters m t.word h.0).1), each f h.1)
+    each (t ∷ f) h = (
+      reduced_weaker braid.field (vanishes braid m) (λ v. IsIn v ws × IsUpTo t.word v) (λ v. IsIn v ws) (single t.word) (λ v p. p.0)
+          (s.spans t.word (from_words braid.letters m t.word h.0).0 (from_words braid.letters m t.word h.0).1),
+      each f h.1,
+    )

@@ -1,5 +1,5 @@
 -- What the laws of least words, bases and normal forms say, for every linear test of which combinations are zero in the algebra.
-use Rattle.std.specs.Prelude.{◌≡◌, ℕ, suc, Bool, true, List, [], ◌++◌, map, length, filter}
+use Rattle.std.specs.Prelude.{◌≡◌, ℕ, true, List, [], ◌++◌, map, length, filter}
 use Rattle.std.specs.List.{AllByRecursion}
 use Rattle.std.specs.declared.cmp.Ordering.TheVariants.{Less}
 use Rattle.nichols_field.specs.Field.{IsField}
@@ -7,11 +7,11 @@ use Rattle.nichols_tensor.specs.Members.{IsIn}
 use Rattle.nichols_tensor.specs.Combination.{Combination, HasSameValues, IsZero, AllElements, AllAmong, single, scaled, minus}
 use Rattle.nichols_tensor.specs.Words.{IsWordOver, IsOver, HasDegree}
 use Rattle.nichols_tensor.specs.WordOrder.{word_cmp, IsRising, IsOrdered}
-use Rattle.nichols_braid.specs.Braid.{BraidValue, IsLetter}
+use Rattle.nichols_braid.specs.Braid.{BraidValue}
 use Rattle.nichols_braid.specs.Kernel.{Vanishing}
 use Rattle.nichols_braid.specs.Least.{is_least, basis, normal_form, candidates, relations}
-use Rattle.nichols_braid.specs.RightProduct.{times_letter}
 use Rattle.nichols_braid.specs.LinearTest.{IsLinearTest}
+use Rattle.nichols_braid.specs.IdealTest.{IsIdealTest}
 
 -- each word of f has the length of w, is a word over the letters and stands before w
 pub record IsOfEarlierWords (braid : BraidValue) (w : List ℕ) (f : Combination) : Type 0 where
@@ -119,14 +119,10 @@ AgreeingTestsReadAlike = (vanishes other : Vanishing) (braid : BraidValue) → A
 
 -- ---- candidates
 
--- what the test takes for zero stays zero with each letter behind
-abbrev pub IsRightIdeal : Vanishing → BraidValue → Type 0
-IsRightIdeal vanishes braid = (m : ℕ) (f : Combination) (b : ℕ) → IsLetter braid b → vanishes braid m f ≡ true → vanishes braid (suc m) (times_letter f b) ≡ true
-
 -- each least word is a candidate: the basis has the least words among the candidates
 abbrev pub BasisIsAmongCandidates : Type 0
 BasisIsAmongCandidates =
-    (vanishes : Vanishing) (braid : BraidValue) → IsField braid.field → ((d : ℕ) → IsLinearTest braid.field (vanishes braid d)) → IsRightIdeal vanishes braid →
+    (vanishes : Vanishing) (braid : BraidValue) → IsField braid.field → IsIdealTest braid (vanishes braid) →
     (m : ℕ) → basis vanishes braid m ≡ filter (is_least vanishes braid) (candidates vanishes braid m)
 
 -- the candidates of the relations of a degree rise

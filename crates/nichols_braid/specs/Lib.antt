@@ -11,7 +11,9 @@ pub mod Tables
 pub mod RightProduct
 pub mod LinearTest
 pub mod LinearMap
-pub mod Laws
 pub mod Rearrangement
+pub mod IdealTest
+pub mod Laws
 pub mod LeastLaws
+pub mod End
 pub mod Rows

@@ -1,5 +1,5 @@
 -- Rows of numbers that words have, and combinations of words given by cells: positions in a list of words with coefficients.
-use Rattle.std.specs.Prelude.{◌≡◌, ◌≢◌, ◌<◌, ℕ, Bool, true, List, [], ◌∷◌, map}
+use Rattle.std.specs.Prelude.{◌≢◌, ◌<◌, ℕ, List, [], ◌∷◌, map}
 use Rattle.std.specs.List.{AllByRecursion}
 use Rattle.nichols_field.specs.Field.{FieldValue, IsElement, plus, times}
 use Rattle.nichols_tensor.specs.Combination.{Combination}

@@ -1,6 +1,6 @@
 //! Laws of the symmetrizer and of the skew derivations, for every braid and every length.
 
-ghost use Rattle.nichols_braid.specs.Laws.{PermutationsHoldEachOnce, SymmetrizerIsLinear, DerivationsAreLinear, DerivationRule, KilledIsRightIdeal, KilledIsDecided, KernelIsDecided, KilledIsLinear, KernelIsLinear};
+ghost use Rattle.nichols_braid.specs.Laws.{PermutationsHoldEachOnce, SymmetrizerIsLinear, DerivationsAreLinear, DerivationRule, KilledIsRightIdeal, KilledIsDecided, KernelIsDecided, KilledIsLinear, KernelIsLinear, KilledIsIdeal};
 ghost use Rattle.nichols_braid.specs.LeastLaws.{LeastWordsAreTested, BasisHasLeastWords, BasisIsIndependent, NormalFormsAreUnique, NormalFormsTellClasses, ZeroHasNoTerms, NormalFormIsLinear, LeastWordsAreNormal, AgreeingTestsReadAlike, BasisIsAmongCandidates, RelationsRise};
 
 /// The quantum symmetrizer is linear.
@@ -52,6 +52,11 @@ pub fn kernel_is_linear()
 /// The list of permutations of m places holds each rearrangement of 1 to m exactly once.
 pub fn permutations_hold_each_once()
     ensures { PermutationsHoldEachOnce }
+{}
+
+/// What is killed is, degree by degree, a linear subspace, kept by a letter from the right.
+pub fn killed_is_ideal()
+    ensures { KilledIsIdeal }
 {}
 
 /// The test of least words says yes exactly of the words that are congruent to no combination of earlier words of their length.

@@ -42,9 +42,7 @@ fn fault(alloc: Global, rack: &[&[i64]], scalars: &Scalars) -> Result<Option<Bra
 #[test]
 fn racks_with_faults(rt: HostRuntime) -> Result<(), Fail> {
     let alloc = rt.alloc();
-    let wide: [i64; 25] = [1; 25];
-    let one: &[i64] = &wide;
-    let tables: [(&[&[i64]], Option<BraidFault>); 9] = [
+    let tables: [(&[&[i64]], Option<BraidFault>); 8] = [
         (&[&[1]], None),
         (&[&[1, 2], &[1, 2]], None),
         (
@@ -52,7 +50,6 @@ fn racks_with_faults(rt: HostRuntime) -> Result<(), Fail> {
             Some(BraidFault::NotDistributive(2, 1, 1, 2, 1)),
         ),
         (&[], Some(BraidFault::Unbuilt)),
-        (&[one; 25], Some(BraidFault::Unbuilt)),
         (&[&[1, 2], &[1]], Some(BraidFault::Unbuilt)),
         (&[&[1, 3], &[1, 2]], Some(BraidFault::Unbuilt)),
         (&[&[0, 2], &[1, 2]], Some(BraidFault::Unbuilt)),
@@ -66,6 +63,20 @@ fn racks_with_faults(rt: HostRuntime) -> Result<(), Fail> {
             rack.len()
         );
     }
+    Ok(())
+}
+
+#[test]
+fn racks_of_too_many_letters(rt: HostRuntime) -> Result<(), Fail> {
+    let alloc = rt.alloc();
+    let field = Field::new(101).map_err(|_| "no field")?;
+    let row: [i64; 25] = [1; 25];
+    let mut rack = Vec::new(alloc);
+    for _letter in 0..25 {
+        rack.push(row.to_vec(alloc)?)?;
+    }
+    let fault = Braid::new(alloc, field, rack.as_slice(), &Scalars::Constant(1)).err();
+    assert_eq!(rt; fault, Some(BraidFault::Unbuilt));
     Ok(())
 }
 

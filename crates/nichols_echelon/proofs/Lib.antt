@@ -8,3 +8,8 @@ pub mod KeptRows
 pub mod OneMore
 pub mod Reducing
 pub mod Tracing
+pub mod Accumulating
+pub mod Sweeping
+pub mod Retracing
+pub mod PivotTable
+pub mod Numbers

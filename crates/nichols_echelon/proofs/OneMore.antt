@@ -34,7 +34,6 @@ module _ (k : FieldValue) (is : IsField k) (kept : List Kept) (row cells steps :
         shape = subst IsRow (sym n.same_cells) left.shape;
         elements = subst (AllElements k) (sym n.same_cells) left.elements;
       };
-      shape = subst IsRow (sym n.same_steps) left.steps_shape;
       elements = subst (AllElements k) (sym n.same_steps) left.steps_elements;
       below = subst (AllBelow (length kept)) (sym n.same_steps) left.steps_below;
       filled = subst (AllFilled kept) (sym n.same_steps) left.steps_filled;
@@ -48,7 +47,6 @@ module _ (k : FieldValue) (is : IsField k) (kept : List Kept) (row cells steps :
   sound_nothing : IsKept k kept (length kept) nothing_kept
   sound_nothing = record {
     sound = record { factor = zero_is_element k is; shape = row_nil; elements = tt };
-    shape = row_nil;
     elements = tt;
     below = tt;
     filled = tt;
@@ -101,7 +99,6 @@ module _ (k : FieldValue) (is : IsField k) (kept : List Kept) (row cells steps :
             let o : IsKept k kept i (kept_at kept i) = old.each i before in
             subst (IsKept k (kept ++ e ∷ []) i) (sym (kept_before kept e i before)) (record {
               sound = o.sound;
-              shape = o.shape;
               elements = o.elements;
               below = o.below;
               filled = filled_before kept e (kept_at kept i).steps (all_weaker (λ c. c.column < i) (λ c. c.column < length kept) (λ c b. omega arith) (kept_at kept i).steps o.below) o.filled;
@@ -110,7 +107,6 @@ module _ (k : FieldValue) (is : IsField k) (kept : List Kept) (row cells steps :
             let last : length kept ≡ i = omega (arith, length_push kept e) in
             subst (IsKept k (kept ++ e ∷ []) i) (sym (kept_last kept e i last)) (record {
               sound = p.entry_of.sound;
-              shape = p.entry_of.shape;
               elements = p.entry_of.elements;
               below = subst (λ n. AllBelow n e.steps) last p.entry_of.below;
               filled = filled_before kept e e.steps p.entry_of.below p.entry_of.filled;

@@ -132,7 +132,6 @@ reduced_all k is kept row cells steps i old all r = record {
   clear = λ column. sym (row_to_cells column) ∙ to_cells column;
   shape = r.shape;
   elements = r.elements;
-  steps_shape = r.steps_shape;
   steps_elements = r.steps_elements;
   steps_below = subst (λ n. AllBelow n steps) all r.steps_below;
   steps_filled = r.steps_filled;

@@ -1,5 +1,5 @@
 -- The shape of rows.
-use Rattle.std.proofs.Common.{◌≡◌, ◌≢◌, ◌<◌, ℕ, List, [], ◌∷◌, ◌++◌, refl, ap, arith}
+use Rattle.std.proofs.Common.{◌≡◌, ◌≢◌, ◌<◌, ℕ, List, [], ◌∷◌, ◌++◌, refl, ap, arith, zero, suc, get_or, length, subst, sym}
 use Rattle.std.specs.List.{AllByRecursion}
 use Rattle.nichols_echelon.specs.Cells.{Cell, IsRow, IsRising, IsBelowFirst, columns_of}
 
@@ -77,3 +77,9 @@ columns_of-push (d ∷ cells) c us = ap (λ vs. d.column ∷ vs) (columns_of-pus
 pub columns_of-append : (xs ys : List Cell) → columns_of (xs ++ ys) ≡ columns_of xs ++ columns_of ys
 columns_of-append [] ys = refl
 columns_of-append (x ∷ xs) ys = ap (λ vs. x.column ∷ vs) (columns_of-append xs ys)
+
+-- what holds of each element holds of one that was read
+pub all_read : {X : Type 0} (P : X → Type 0) (xs : List X) (i : ℕ) (x d : X) → AllByRecursion P xs → i < length xs → x ≡ get_or xs i d → P x
+all_read P [] i x d h inside e = absurd (omega (arith, inside))
+all_read P (y ∷ xs) zero x d h inside e = subst P (sym e) h.0
+all_read P (y ∷ xs) (suc i) x d h inside e = all_read P xs i x d h.1 (omega (arith, inside)) e

@@ -1,5 +1,5 @@
 -- The loop that leads from kept rows back to the rows that they come from.
-use Rattle.std.proofs.Common.{◌≡◌, ◌≢◌, ◌<◌, ◌≤◌, ℕ, suc, max, Bool, true, List, [], ◌∷◌, ◌++◌, sym, ◌∙◌, ap, ap₂, subst, arith, length, reverse}
+use Rattle.std.proofs.Common.{◌≡◌, ◌≢◌, ◌<◌, ◌≤◌, ℕ, suc, max, Bool, true, List, [], ◌∷◌, ◌++◌, sym, ◌∙◌, ap, ap₂, subst, arith, length, reverse, zero}
 use Rattle.std.specs.List.{AllByRecursion}
 use Rattle.std.proofs.lemmas.List.{reverse-append}
 use Rattle.std.proofs.lemmas.Bool.{lt-ltb, ltb-true}
@@ -9,7 +9,7 @@ use Rattle.nichols_field.proofs.FieldLaws.{plus_assoc, plus_zero, times_plus, pl
 use Rattle.nichols_field.proofs.FieldAlgebra.{zero_plus, zero_times, plus_times, swap_middle, negative_plus}
 use Rattle.nichols_echelon.specs.Cells.{Cell, entry, IsRow, IsRising, IsBelowFirst, AllElements, AllBelow, columns_of}
 use Rattle.nichols_echelon.specs.Combination.{combined}
-use Rattle.nichols_echelon.specs.Echelon.{Kept, kept_at, cells_of, is_filled, AllPass, AllFilled, IsKept, AreKept, AreMade, IsTraced}
+use Rattle.nichols_echelon.specs.Echelon.{Kept, kept_at, cells_of, is_filled, AllPass, AllFilled, IsKept, AreKept, AreMade, AllStepsRise, IsTraced}
 use Rattle.nichols_echelon.proofs.Shapes.{all_append, all_front, all_back, all_weaker, row_nil, row_cons, columns_of-append}
 use Rattle.nichols_echelon.proofs.Entries.{entry-append, entry-scaled, scaled}
 use Rattle.nichols_echelon.proofs.Combinations.{combined-nil, combined-cons, combined-push, combined-append, combined-scaled, combined_is_element, combined_from_entries, all_below-scaled}
@@ -96,7 +96,7 @@ pub passes_below : (n : ℕ) (cells : List Cell) → AllPass (λ v. nat_lt v n) 
 passes_below n cells h = all_weaker (λ c. nat_lt c.column n ≡ true) (λ c. c.column < n) (λ c b. ltb-true c.column n b) cells h
 
 -- F + -x S and x (C + S) + O are F + x C and O
-traced_sum : (k : FieldValue) → IsField k → (f s x c o : ℕ) → IsElement k x → plus k (plus k f (times k (negative k x) s)) (plus k (times k x (plus k c s)) o) ≡ plus k (plus k f (times k x c)) o
+pub traced_sum : (k : FieldValue) → IsField k → (f s x c o : ℕ) → IsElement k x → plus k (plus k f (times k (negative k x) s)) (plus k (times k x (plus k c s)) o) ≡ plus k (plus k f (times k x c)) o
 traced_sum k is f s x c o ex =
     let ns : ℕ = times k (negative k x) s in
     let xs : ℕ = times k x s in
@@ -193,9 +193,15 @@ pub record IsPopped (k : FieldValue) (kept : List Kept) (front : List Cell) (c :
   pub front_shape : IsRow front
   pub front_elements : AllElements k front
   pub own : IsKept k kept c.column (kept_at kept c.column)
+  pub own_shape : IsRow (kept_at kept c.column).steps
 
-pub popped : (k : FieldValue) (kept : List Kept) (steps left front out : List Cell) (c : Cell) → AreKept k kept → left ≡ front ++ c ∷ [] → Tracing k kept steps left out → IsPopped k kept front c
-popped k kept steps left front out c old e before =
+steps_rise : (kept : List Kept) (i : ℕ) → AllStepsRise kept → IsRow (kept_at kept i).steps
+steps_rise [] i h = row_nil
+steps_rise (e ∷ kept) zero h = h.0
+steps_rise (e ∷ kept) (suc i) h = steps_rise kept i h.1
+
+pub popped : (k : FieldValue) (kept : List Kept) (steps left front out : List Cell) (c : Cell) → AreKept k kept → AllStepsRise kept → left ≡ front ++ c ∷ [] → Tracing k kept steps left out → IsPopped k kept front c
+popped k kept steps left front out c old rise e before =
     let t : Tracing k kept steps (front ++ c ∷ []) out = subst (λ (cs : List Cell). Tracing k kept steps cs out) e before in
     let i : c.column < length kept = (all_back (λ d. d.column < length kept) front (c ∷ []) t.left_below).0 in
     record {
@@ -204,6 +210,7 @@ popped k kept steps left front out c old e before =
       front_shape = (row_last front c t.left_shape).0;
       front_elements = all_front (λ d. IsElement k d.coefficient) front (c ∷ []) t.left_elements;
       own = old.each c.column i;
+      own_shape = steps_rise kept c.column rise;
     }
 
 -- one turn of the loop

@@ -12,6 +12,10 @@ row_at rows k = slice_index_or rows k []
 abbrev pub AllRowsElements : FieldValue → List (List Cell) → Type 0
 AllRowsElements field rows = AllByRecursion (λ row. AllElements field row) rows
 
+-- each column of each row is below a bound
+abbrev pub AllRowsBelow : ℕ → List (List Cell) → Type 0
+AllRowsBelow bound rows = AllByRecursion (λ row. AllBelow bound row) rows
+
 -- the entry at a column of a combination of rows: each cell is the position of a row with its coefficient
 unfoldable pub combined : FieldValue → List (List Cell) → List Cell → ℕ → ℕ
 combined field rows [] column = 0

@@ -56,10 +56,13 @@ pub record IsSound (field : FieldValue) (e : Kept) : Type 0 where
 -- the kept row at position i, with what was taken out of it: multiples of earlier kept rows
 pub record IsKept (field : FieldValue) (kept : List Kept) (i : ℕ) (e : Kept) : Type 0 where
   pub sound : IsSound field e
-  pub shape : IsRow e.steps
   pub elements : AllElements field e.steps
   pub below : AllBelow i e.steps
   pub filled : AllFilled kept e.steps
+
+-- the steps of each kept row rise
+abbrev pub AllStepsRise : List Kept → Type 0
+AllStepsRise kept = AllByRecursion (λ e. IsRow e.steps) kept
 
 -- the kept rows, each of which all of them in turn make 0
 pub record AreKept (field : FieldValue) (kept : List Kept) : Type 0 where
@@ -77,7 +80,6 @@ pub record IsRemainder (field : FieldValue) (kept : List Kept) (row cells steps 
   pub clear : (column : ℕ) → cleared field kept (entry field cells) column ≡ entry field cells column
   pub shape : IsRow cells
   pub elements : AllElements field cells
-  pub steps_shape : IsRow steps
   pub steps_elements : AllElements field steps
   pub steps_below : AllBelow (length kept) steps
   pub steps_filled : AllFilled kept steps
@@ -89,3 +91,11 @@ pub record IsTraced (field : FieldValue) (kept : List Kept) (steps cells : List 
   pub elements : AllElements field cells
   pub below : AllBelow (length kept) cells
   pub filled : AllFilled kept cells
+
+-- what is left of some row, and the steps, by themselves
+pub record IsLeft (field : FieldValue) (kept : List Kept) (cells steps : List Cell) : Type 0 where
+  pub shape : IsRow cells
+  pub elements : AllElements field cells
+  pub steps_elements : AllElements field steps
+  pub steps_below : AllBelow (length kept) steps
+  pub steps_filled : AllFilled kept steps

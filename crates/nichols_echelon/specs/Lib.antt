@@ -4,3 +4,6 @@ pub mod Split
 pub mod Echelon
 pub mod Settled
 pub mod Next
+pub mod Accumulator
+pub mod Pivots
+pub mod Numbering

@@ -5,7 +5,7 @@ ghost use Rattle.nichols_field.specs.Field.{IsElement, plus, times};
 ghost use Rattle.nichols_echelon.specs.Cells.{IsRow, AllElements, AllBelow, entry, first_coefficient};
 ghost use Rattle.nichols_echelon.specs.Combination.{AllRowsElements};
 ghost use Rattle.nichols_echelon.specs.Split.{IsSplit};
-ghost use Rattle.nichols_echelon.specs.Echelon.{IsSound, AreKept, IsRemainder, IsTraced, AllFilled, cleared_by, is_filled};
+ghost use Rattle.nichols_echelon.specs.Echelon.{IsSound, AreKept, AllStepsRise, IsRemainder, IsTraced, AllFilled, cleared_by, is_filled};
 ghost use Rattle.nichols_echelon.specs.Settled.{IsSettled};
 
 use crate::keeping::{Kept, Remainder, kept_of};
@@ -70,7 +70,8 @@ fn reduced(
     requires count { length kept.now < 2 ^ 32 }
     requires shape { IsRow row.now }
     requires elements { AllElements field row.now }
-    ensures { IfOk result (λ r. IsRemainder field kept.now row.now r.cells.items r.steps.items) }
+    ensures remainder { IfOk result (λ r. IsRemainder field kept.now row.now r.cells.items r.steps.items) }
+    ensures rise { IfOk result (λ r. IsRow r.steps.items) }
 {
     let _modulus = field.modulus();
     let mut cells = Vec::from_slice(alloc, row)?;
@@ -97,6 +98,7 @@ fn traced(
     steps: Vec<Cell>,
 ) -> Result<Vec<Cell>, AllocError>
     requires kept { AreKept field kept.now }
+    requires rise { AllStepsRise kept.now }
     requires shape { IsRow steps.items }
     requires elements { AllElements field steps.items }
     requires below { AllBelow (length kept.now) steps.items }
@@ -134,13 +136,15 @@ fn settled(
     remainder: Remainder,
 ) -> Result<(Kept, Place), AllocError>
     requires kept { AreKept field kept.now }
+    requires rise { AllStepsRise kept.now }
     requires shape { IsRow remainder.cells.items }
     requires elements { AllElements field remainder.cells.items }
     requires steps_shape { IsRow remainder.steps.items }
     requires steps_elements { AllElements field remainder.steps.items }
     requires steps_below { AllBelow (length kept.now) remainder.steps.items }
     requires steps_filled { AllFilled kept.now remainder.steps.items }
-    ensures { IfOk result (λ r. IsSettled field kept.now remainder.cells.items remainder.steps.items r.0 r.1) }
+    ensures settled { IfOk result (λ r. IsSettled field kept.now remainder.cells.items remainder.steps.items r.0 r.1) }
+    ensures rise { IfOk result (λ r. IsRow r.0.steps) }
 {
     let _modulus = field.modulus();
     let Remainder { cells, steps } = remainder;

@@ -75,7 +75,9 @@ fn is_below(column: u32, cells: &[Cell]) -> bool
 }
 
 impl Row {
-    /// The row of the cells. It is `None` where the columns don't rise or a coefficient is 0.
+    /// The row of the cells: `None` exactly where the columns don't rise or a coefficient is 0.
+    ///
+    /// It takes no memory.
     pub fn from_cells(cells: Vec<Cell>) -> Option<Row>
         ensures { MatchOption result (IsRow cells.items → ⊥) (λ r. (r ≡ cells.items) × IsRow cells.items) }
     {

@@ -1,7 +1,7 @@
 -- What follows from the laws of the field, by equational steps alone.
-use Rattle.std.proofs.Common.{◌≡◌, ◌≢◌, ℕ, Bool, true, false, cond, refl, sym, ◌∙◌, ap, ◌⊎◌}
+use Rattle.std.proofs.Common.{◌≡◌, ◌≢◌, ℕ, Bool, true, false, cond, refl, sym, ◌∙◌, ap}
 use Rattle.nichols_field.specs.Field.{FieldValue, IsField, IsElement, plus, times, negative}
-use Rattle.nichols_field.proofs.FieldLaws.{plus_comm, plus_assoc, times_comm, times_assoc, times_plus, plus_zero, times_one, times_zero, zero_is_element, plus_is_element, times_is_element, negative_is_element, plus_negative, opposite_sum, has_reciprocal, one_is_element}
+use Rattle.nichols_field.proofs.FieldLaws.{plus_comm, plus_assoc, times_comm, times_assoc, times_plus, plus_zero, times_one, times_zero, zero_is_element, times_is_element, plus_negative, opposite_sum, has_reciprocal}
 
 pub zero_plus : (k : FieldValue) (a : ℕ) → IsElement k a → plus k 0 a ≡ a
 zero_plus k a h = plus_comm k 0 a ∙ plus_zero k a h

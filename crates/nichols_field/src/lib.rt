@@ -99,6 +99,18 @@ impl Field {
         a * b % self.modulus
     }
 
+    /// The sum of an element and a product, reduced once.
+    #[tactic(auto, using(crate::proofs::Table::modulus_bounds, crate::proofs::FieldLaws::product_fits, crate::proofs::FieldLaws::sum_fits, crate::proofs::FieldLaws::plus_product, std::proofs::lemmas::Nat::mod_below), unfolding(crate::specs::Field::IsElement))]
+    pub fn add_product(self, sum: u32, a: u32, b: u32) -> u32
+        requires sum { IsElement self sum }
+        requires left { IsElement self a }
+        requires right { IsElement self b }
+        ensures value { result ≡ plus self sum (times self a b) }
+        ensures element { IsElement self result }
+    {
+        (sum + a * b) % self.modulus
+    }
+
     /// The element whose sum with a is 0.
     #[tactic(auto, using(crate::proofs::Table::modulus_bounds, std::proofs::lemmas::Nat::mod_below), unfolding(crate::specs::Field::negative, crate::specs::Field::IsElement))]
     pub fn neg(self, a: u32) -> u32

@@ -10,7 +10,7 @@ lesser a [] = 0
 lesser a (b ∷ ends) = cond (nat_lt b a) (suc (lesser a ends)) (lesser a ends)
 
 -- how many pairs stand the wrong way round
-inversions : List ℕ → ℕ
+pub inversions : List ℕ → ℕ
 inversions [] = 0
 inversions (a ∷ ends) = lesser a ends + inversions ends
 
@@ -20,7 +20,7 @@ later_descent : (a b : ℕ) (ends : List ℕ) (j : ℕ) → IsDescentAt j (b ∷
 later_descent a b ends zero d = absurd d
 later_descent a b ends (suc j) d = subst (λ n. IsDescentAt n (a ∷ b ∷ ends)) (let e : suc (suc j) ≡ suc j + 1 = omega arith in e) d
 
-found_is_descent : (ends : List ℕ) (i : ℕ) → first_descent ends ≡ Some i → IsDescentAt i ends
+pub found_is_descent : (ends : List ℕ) (i : ℕ) → first_descent ends ≡ Some i → IsDescentAt i ends
 found_is_descent [] i h = cc
 found_is_descent (a ∷ []) i h = cc
 found_is_descent (a ∷ b ∷ ends) i h = at (nat_lt b a) refl (first_descent (b ∷ ends)) refl h (λ j f. found_is_descent (b ∷ ends) j f)
@@ -31,7 +31,7 @@ found_is_descent (a ∷ b ∷ ends) i h = at (nat_lt b a) refl (first_descent (b
     at false e None f h rest = cc
     at false e (Some j) f h rest = subst (λ n. IsDescentAt n (a ∷ b ∷ ends)) (let same : j + 1 ≡ i = cc in same) (later_descent a b ends j (rest j f))
 
-none_is_sorted : (ends : List ℕ) → first_descent ends ≡ None → IsSorted ends
+pub none_is_sorted : (ends : List ℕ) → first_descent ends ≡ None → IsSorted ends
 none_is_sorted [] h = tt
 none_is_sorted (a ∷ []) h = tt
 none_is_sorted (a ∷ b ∷ ends) h = at (nat_lt b a) refl (first_descent (b ∷ ends)) refl h (λ f. none_is_sorted (b ∷ ends) f)
@@ -59,7 +59,7 @@ lesser-exchanged c (suc zero) (a ∷ b ∷ ends) = at (nat_lt a c) (nat_lt b c) 
 lesser-exchanged c (suc (suc i)) [] = refl
 lesser-exchanged c (suc (suc i)) (a ∷ ends) = ap (λ n. cond (nat_lt a c) (suc n) n) (lesser-exchanged c (suc i) ends)
 
-one_fewer : (i : ℕ) (ends : List ℕ) → IsDescentAt i ends → suc (inversions (exchanged i ends)) ≡ inversions ends
+pub one_fewer : (i : ℕ) (ends : List ℕ) → IsDescentAt i ends → suc (inversions (exchanged i ends)) ≡ inversions ends
 unfolding inversions lesser
 one_fewer zero ends h = absurd h
 one_fewer (suc zero) [] h = absurd h

@@ -12,6 +12,7 @@ use Rattle.nichols_braid.specs.Crossing.{cross, cross_scalar, crossed}
 use Rattle.nichols_braid.specs.Lift.{exchanged, IsDescentAt, IsSorted, IsDescending}
 use Rattle.nichols_braid.specs.Derivation.{scalars_met}
 use Rattle.nichols_braid.proofs.Rearranged.{consecutive}
+use Rattle.nichols_braid.proofs.WordLists.{pushed_length}
 use Rattle.nichols_lift.proofs.Reduced.{term}
 use Rattle.nichols_lift.proofs.Step.{exchanged_is_permutation, exchanged_length, cross_length}
 
@@ -25,10 +26,6 @@ scalar_behind : (braid : BraidValue) (front : List ℕ) (a b : ℕ) (u : List �
 scalar_behind braid [] a b u = refl
 scalar_behind braid (x ∷ front) a b u = scalar_behind braid front a b u
 
-pub length-push : (xs : List ℕ) (y : ℕ) → length (xs ++ y ∷ []) ≡ suc (length xs)
-length-push [] y = refl
-length-push (x ∷ xs) y = ap suc (length-push xs y)
-
 pub carried : (braid : BraidValue) → IsField braid.field → (front : List ℕ) (a : ℕ) (u : List ℕ) (c : ℕ) → IsElement braid.field c →
     crossed braid (consecutive (suc (length front)) (length u)) (term (front ++ a ∷ u) c) ≡ term (front ++ (map (act braid a) u ++ a ∷ [])) (times braid.field c (scalars_met braid a u))
 carried braid is front a [] c e = ap (term (front ++ a ∷ [])) (sym (times_one braid.field c e))
@@ -36,7 +33,7 @@ carried braid is front a (b ∷ u) c e =
     let next : List ℕ = front ++ act braid a b ∷ [] in
     let d : ℕ = times braid.field c (scalar braid a b) in
     ap₂ (λ w s. crossed braid (consecutive (suc (suc (length front))) (length u)) (term w (times braid.field c s))) (cross_behind braid front a b u ∙ sym (append_assoc front (act braid a b ∷ []) (a ∷ u))) (scalar_behind braid front a b u)
-    ∙ ap (λ n. crossed braid (consecutive (suc n) (length u)) (term (next ++ a ∷ u) d)) (sym (length-push front (act braid a b)))
+    ∙ ap (λ n. crossed braid (consecutive (suc n) (length u)) (term (next ++ a ∷ u) d)) (sym (pushed_length front (act braid a b)))
     ∙ carried braid is next a u d (times_is_element braid.field c (scalar braid a b) is)
     ∙ ap₂ term (append_assoc front (act braid a b ∷ []) (map (act braid a) u ++ a ∷ [])) (times_assoc braid.field c (scalar braid a b) (scalars_met braid a u))
 
@@ -55,7 +52,7 @@ descending_carry n front [] places less h = subst (λ es. IsDescending (es ++ n 
 descending_carry n front (r ∷ rest) places less h = (
   descent_behind front n r rest (All-head (λ a. a < n) r rest less),
   subst (λ es. IsDescending es (consecutive (suc (suc (length front))) (length rest) ++ places)) (append_assoc front (r ∷ []) (n ∷ rest) ∙ sym (exchanged_behind front n r rest))
-      (subst (λ k. IsDescending ((front ++ r ∷ []) ++ n ∷ rest) (consecutive (suc k) (length rest) ++ places)) (length-push front r)
+      (subst (λ k. IsDescending ((front ++ r ∷ []) ++ n ∷ rest) (consecutive (suc k) (length rest) ++ places)) (pushed_length front r)
       (descending_carry n (front ++ r ∷ []) rest places (All-tail (λ a. a < n) r rest less) (subst (λ es. IsDescending (es ++ n ∷ []) places) (sym (append_assoc front (r ∷ []) rest)) h))),
 )
 

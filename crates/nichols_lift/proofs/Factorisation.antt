@@ -1,6 +1,5 @@
 -- The symmetrizer factors through the skew derivations.
 use Rattle.std.proofs.Common.{◌≡◌, ℕ, suc, Bool, true, false, cond, List, [], ◌∷◌, ◌++◌, map, length, refl, sym, ◌∙◌, ap, ap₂, nat_eq, append_assoc}
-use Rattle.std.specs.Prelude.{if◌then◌else◌}
 use Rattle.std.specs.List.{flat_map, AllByRecursion}
 use Rattle.std.proofs.lemmas.List.{append-nil, map-append}
 use Rattle.std.proofs.lemmas.Bool.Decides.{Decides-eqb}
@@ -14,14 +13,12 @@ use Rattle.nichols_braid.specs.Symmetrizer.{lifts, symmetrized}
 use Rattle.nichols_braid.specs.Derivation.{scalars_met, derived_word, derived}
 use Rattle.nichols_braid.specs.RightProduct.{times_letter}
 use Rattle.nichols_braid.proofs.Maps.{extended_same, extended_same_on, extended-sum, extended-extended, times_letter_is_extended, times_letter-append}
+use Rattle.nichols_braid.proofs.Rule.{here, map-here}
 use Rattle.nichols_lift.proofs.Reduced.{term}
 use Rattle.nichols_lift.proofs.Summands.{Summand, summands, lifted, lifts_are_summands}
 use Rattle.nichols_lift.proofs.Totals.{total, total_same, total-plus, total_zero, one_letter, value_at-flat_map}
 
 -- ---- the derivation by a letter takes the summands of this letter
-
-here : Bool → Term → Combination
-here c t = if c then t ∷ [] else []
 
 rests_of : ℕ → List Summand → Combination
 rests_of a [] = []
@@ -29,11 +26,6 @@ rests_of a (s ∷ ss) = here (nat_eq a s.letter) s.rest ++ rests_of a ss
 
 fronted : List ℕ → Term → Term
 fronted front t = record { word = front ++ t.word; coefficient = t.coefficient }
-
-map-here : (f : Term → Term) (c : Bool) (t : Term) → map f (here c t) ≡ here c (f t)
-unfolding here
-map-here f true t = refl
-map-here f false t = refl
 
 here_same : (c : Bool) (s t : Term) → (c ≡ true → s ≡ t) → here c s ≡ here c t
 unfolding here
@@ -113,14 +105,14 @@ gathered_total braid is (s ∷ ss) v over =
 -- ---- one word
 
 -- the image under the derivation by a and the symmetrizer, with a put behind
-abbrev part : BraidValue → ℕ → List ℕ → Combination
+abbrev pub part : BraidValue → ℕ → List ℕ → Combination
 part braid a w = times_letter (symmetrized braid (derived_word braid a w)) a
 
 part_is_gathered : (braid : BraidValue) (a : ℕ) (w : List ℕ) → part braid a w ≡ gathered braid (summands braid [] w) a
 unfolding gathered
 part_is_gathered braid a w = ap (λ d. times_letter (symmetrized braid d) a) (derived_word_is_rests braid a w)
 
-lifts_factor : (braid : BraidValue) → IsBraid braid → (m : ℕ) (w : List ℕ) → length w ≡ suc m → IsWordOver braid.letters w → HasSameValues braid.field (lifts braid w) (flat_map (λ a. part braid a w) (up_to braid.letters))
+pub lifts_factor : (braid : BraidValue) → IsBraid braid → (m : ℕ) (w : List ℕ) → length w ≡ suc m → IsWordOver braid.letters w → HasSameValues braid.field (lifts braid w) (flat_map (λ a. part braid a w) (up_to braid.letters))
 lifts_factor braid is m w size over v =
     let k : FieldValue = braid.field in
     ap (λ f. value_at k f v) (lifts_are_summands braid is m w size over)
@@ -130,7 +122,7 @@ lifts_factor braid is m w size over v =
 
 -- ---- all words
 
-extended-flat_map : (k : FieldValue) → IsField k → (image : ℕ → List ℕ → Combination) (js : List ℕ) (f : Combination) →
+pub extended-flat_map : (k : FieldValue) → IsField k → (image : ℕ → List ℕ → Combination) (js : List ℕ) (f : Combination) →
     HasSameValues k (extended k (λ w. flat_map (λ a. image a w) js) f) (flat_map (λ a. extended k (image a) f) js)
 extended-flat_map k is image [] f = nothing f
   where
@@ -142,7 +134,7 @@ extended-flat_map k is image (j ∷ js) f = λ v.
     ∙ same_append k is (extended k (image j) f) (extended k (λ w. flat_map (λ a. image a w) js) f) (extended k (image j) f) (flat_map (λ a. extended k (image a) f) js) (λ u. refl) (extended-flat_map k is image js f) v
 
 -- the part of a letter, extended
-extended_part : (braid : BraidValue) → IsField braid.field → (a : ℕ) (f : Combination) → HasSameValues braid.field (extended braid.field (part braid a) f) (times_letter (symmetrized braid (derived braid a f)) a)
+pub extended_part : (braid : BraidValue) → IsField braid.field → (a : ℕ) (f : Combination) → HasSameValues braid.field (extended braid.field (part braid a) f) (times_letter (symmetrized braid (derived braid a f)) a)
 extended_part braid is a f v =
     extended_same k is (part braid a) (λ w. extended k put (extended k (lifts braid) (derived_word braid a w))) f (λ w u. times_letter_is_extended k is (symmetrized braid (derived_word braid a w)) a u) v
     ∙ sym (extended-extended k is (λ w. extended k (lifts braid) (derived_word braid a w)) put f v)
@@ -155,7 +147,7 @@ extended_part braid is a f v =
     put : List ℕ → Combination
     put w = single (w ++ a ∷ [])
 
-same_flat_maps : (k : FieldValue) → IsField k → (f g : ℕ → Combination) (js : List ℕ) → ((j : ℕ) → HasSameValues k (f j) (g j)) → HasSameValues k (flat_map f js) (flat_map g js)
+pub same_flat_maps : (k : FieldValue) → IsField k → (f g : ℕ → Combination) (js : List ℕ) → ((j : ℕ) → HasSameValues k (f j) (g j)) → HasSameValues k (flat_map f js) (flat_map g js)
 same_flat_maps k is f g [] h v = refl
 same_flat_maps k is f g (j ∷ js) h v = same_append k is (f j) (flat_map f js) (g j) (flat_map g js) (h j) (same_flat_maps k is f g js h) v
 

@@ -19,7 +19,7 @@ use Rattle.nichols_braid.proofs.Maps.{extended_same_on, extended_identity, times
 use Rattle.nichols_braid.proofs.Killed.{killed-times_letter, is_killed_sound, is_killed_complete, is_in_kernel_sound, is_in_kernel_complete}
 use Rattle.nichols_lift.proofs.Totals.{total_same, total_zero, one_letter, value_at-flat_map}
 use Rattle.nichols_lift.proofs.Factorisation.{factors}
-use Rattle.nichols_lift.proofs.Degrees.{derived_degree, derived_over, times_letter_degree, times_letter_over}
+use Rattle.nichols_braid.proofs.Degrees.{derived_degree, derived_over, times_letter_degree, times_letter_over}
 
 -- ---- words with different last letters differ
 
@@ -80,11 +80,11 @@ at_last k is n part a l v =
 
 -- ---- degree 0
 
-lifts_of_empty : (braid : BraidValue) → lifts braid [] ≡ single []
+pub lifts_of_empty : (braid : BraidValue) → lifts braid [] ≡ single []
 unfolding lifts permutations lift
 lifts_of_empty braid = refl
 
-symmetrized_0 : (braid : BraidValue) → IsField braid.field → (f : Combination) → HasDegree 0 f → HasSameValues braid.field (symmetrized braid f) f
+pub symmetrized_0 : (braid : BraidValue) → IsField braid.field → (f : Combination) → HasDegree 0 f → HasSameValues braid.field (symmetrized braid f) f
 symmetrized_0 braid is f degree w = extended_same_on braid.field is (lifts braid) single f (each f degree) w ∙ extended_identity braid.field is f w
   where
     empty : (v : List ℕ) → length v ≡ 0 → HasSameValues braid.field (lifts braid v) (single v)

@@ -9,5 +9,9 @@ pub mod Chain
 pub mod Summands
 pub mod Totals
 pub mod Factorisation
-pub mod Degrees
 pub mod Kernel
+pub mod Readings
+pub mod Parts
+pub mod Recursion
+pub mod Leading
+pub mod Perms

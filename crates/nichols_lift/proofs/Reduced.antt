@@ -1,5 +1,5 @@
 -- Every descending list leads to the closed form; so does the list that the lift takes.
-use Rattle.std.proofs.Common.{◌≡◌, ℕ, List, [], ◌∷◌, length, map, refl, sym, ◌∙◌, ap, ap₂}
+use Rattle.std.proofs.Common.{◌≡◌, ℕ, List, [], ◌∷◌, length, map, sym, ◌∙◌, ap, ap₂}
 use Rattle.std.proofs.lemmas.List.Sorted.{IsPermutation-trans}
 use Rattle.nichols_field.specs.Field.{IsField, IsElement, times}
 use Rattle.nichols_field.proofs.FieldLaws.{times_assoc, times_one, times_is_element, one_is_element}
@@ -14,6 +14,7 @@ use Rattle.nichols_lift.specs.ClosedForm.{ended, ended_scalar, letter_at, closed
 use Rattle.nichols_lift.proofs.Acted.{none_placed}
 use Rattle.nichols_lift.proofs.Step.{cross_length, cross_over, exchanged_is_permutation, crossed_letters, crossed_scalars}
 use Rattle.nichols_lift.proofs.Bubble.{bubble_descends}
+use Rattle.nichols_braid.proofs.Lists.{same_map}
 use Rattle.nichols_braid.proofs.Rearranged.{consecutive, up_to_is_consecutive, rearranged_length}
 use Rattle.nichols_lift.proofs.Sorted.{sorted_is_up_to, closed_letters_sorted, closed_scalar_sorted}
 
@@ -23,10 +24,6 @@ term w c = record { word = w; coefficient = c }
 -- the word of the closed form
 ending : BraidValue → ℕ → List ℕ → List ℕ → List ℕ
 ending braid m ends w = map (letter_at (ended braid [] ends w)) (up_to m)
-
-map_same : (f g : ℕ → ℕ) (xs : List ℕ) → ((x : ℕ) → f x ≡ g x) → map f xs ≡ map g xs
-map_same f g [] h = refl
-map_same f g (x ∷ xs) h = ap₂ (λ y r. y ∷ r) (h x) (map_same f g xs h)
 
 at_end : (braid : BraidValue) → IsField braid.field → (ends w : List ℕ) → ends ≡ consecutive 1 (length w) → (c : ℕ) → IsElement braid.field c →
     term w c ≡ term (ending braid (length w) ends w) (times braid.field c (ended_scalar braid [] ends w))
@@ -38,7 +35,7 @@ at_end braid is ends w e c element =
 
 ending_same : (braid : BraidValue) (m : ℕ) (ends w ends' w' : List ℕ) → ((e : ℕ) → letter_at (ended braid [] ends' w') e ≡ letter_at (ended braid [] ends w) e) → ending braid m ends' w' ≡ ending braid m ends w
 unfolding ending
-ending_same braid m ends w ends' w' h = map_same (letter_at (ended braid [] ends' w')) (letter_at (ended braid [] ends w)) (up_to m) h
+ending_same braid m ends w ends' w' h = same_map (letter_at (ended braid [] ends' w')) (letter_at (ended braid [] ends w)) (up_to m) (λ e i. h e)
 
 crossed_to_closed : (braid : BraidValue) → IsBraid braid → (m : ℕ) (places ends w : List ℕ) (c : ℕ) → IsRearrangement m ends → length w ≡ m → IsWordOver braid.letters w → IsElement braid.field c → IsDescending ends places →
     crossed braid places (term w c) ≡ term (ending braid m ends w) (times braid.field c (ended_scalar braid [] ends w))

@@ -10,6 +10,7 @@ use Rattle.nichols_tensor.specs.Words.{IsWordOver}
 use Rattle.nichols_braid.specs.Braid.{BraidValue, act, scalar, IsRack, IsCocycle}
 use Rattle.nichols_braid.specs.Crossing.{cross, cross_scalar}
 use Rattle.nichols_braid.specs.Lift.{exchanged, IsDescentAt}
+use Rattle.nichols_braid.proofs.Lists.{chosen_true, chosen_false}
 use Rattle.nichols_lift.specs.ClosedForm.{Placed, acted, acted_scalar, ended, ended_scalar, letter_at}
 use Rattle.nichols_lift.proofs.Acted.{placed, AllLetters, all_letters, none_placed, ended-crossed, ended_scalar-crossed}
 
@@ -48,14 +49,6 @@ exchanged_is_permutation (suc (suc i)) [] h = absurd h
 exchanged_is_permutation (suc (suc i)) (a ∷ ends) h = IsPermutation-cons a ends (exchanged (suc i) ends) (exchanged_is_permutation (suc i) ends h)
 
 -- ---- the crossed letters
-
-chosen_true : {X : Type 0} (t : Bool) (x y : X) → t ≡ true → cond t x y ≡ x
-chosen_true true x y h = refl
-chosen_true false x y h = cc
-
-chosen_false : {X : Type 0} (t : Bool) (x y : X) → t ≡ false → cond t x y ≡ y
-chosen_false true x y h = cc
-chosen_false false x y h = refl
 
 below_is_true : (a b : ℕ) → a < b → nat_lt a b ≡ true
 below_is_true a b h = grind (arith, nat_tests)

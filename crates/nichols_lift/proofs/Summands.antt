@@ -1,8 +1,8 @@
 -- The lifts of a word, in the order of the list of permutations: for each place in turn, the letter there is carried to the end,
 -- and the letters before it are lifted by each permutation of the places before.
-use Rattle.std.proofs.Common.{◌≡◌, ℕ, suc, ◌+◌, ◌-◌, ◌<◌, ◌≤◌, List, [], ◌∷◌, ◌++◌, map, length, take, drop, refl, sym, ◌∙◌, ap, ap₂, subst, arith, append_assoc, inl, inr}
+use Rattle.std.proofs.Common.{◌≡◌, ℕ, suc, ◌+◌, ◌-◌, ◌<◌, ◌≤◌, List, [], ◌∷◌, ◌++◌, map, length, take, drop, refl, sym, ◌∙◌, ap, ap₂, subst, arith, append_assoc}
 use Rattle.std.specs.List.{All, flat_map, insert}
-use Rattle.std.proofs.lemmas.List.{length-append, length-drop, length-take-le, take-append-drop, map-append}
+use Rattle.std.proofs.lemmas.List.{length-map, length-append, length-drop, length-take-le, take-append-drop, map-append}
 use Rattle.std.proofs.lemmas.List.Elements.{All-weaker}
 use Rattle.nichols_field.specs.Field.{IsElement, times}
 use Rattle.nichols_field.proofs.FieldLaws.{times_one, times_is_element, one_is_element}
@@ -17,23 +17,13 @@ use Rattle.nichols_braid.specs.Symmetrizer.{permutations, lifts}
 use Rattle.nichols_braid.specs.Derivation.{scalars_met}
 use Rattle.nichols_braid.specs.Rearrangement.{IsRearrangement}
 use Rattle.nichols_braid.specs.RightProduct.{times_letter}
+use Rattle.nichols_braid.proofs.Lists.{first_is_in, later_is_in, map-map}
 use Rattle.nichols_braid.proofs.Rearranged.{consecutive, up_to_is_consecutive, rearranged_length, rearranged_bounds}
 use Rattle.nichols_braid.proofs.Permutations.{inserted_is_rearrangement, listed_is_rearrangement, insert_between}
+use Rattle.nichols_braid.proofs.WordLists.{pushed_length}
 use Rattle.nichols_lift.proofs.Bubble.{bubble_descends}
 use Rattle.nichols_lift.proofs.Reduced.{term, reduced_list, lift_is_closed}
-use Rattle.nichols_lift.proofs.Chain.{length-push, carried, descending_inserted, behind, multiple, crossed_within, crossed-append, crossed_multiple}
-
-mapped : (f : ℕ → ℕ) (xs : List ℕ) → length (map f xs) ≡ length xs
-mapped f [] = refl
-mapped f (x ∷ xs) = ap suc (mapped f xs)
-
-first_is_in : (x : List ℕ) (xs : List (List ℕ)) → IsIn x (x ∷ xs)
-unfolding IsIn
-first_is_in x xs = inl refl
-
-later_is_in : (x y : List ℕ) (xs : List (List ℕ)) → IsIn x xs → IsIn x (y ∷ xs)
-unfolding IsIn
-later_is_in x y xs h = inr h
+use Rattle.nichols_lift.proofs.Chain.{carried, descending_inserted, behind, multiple, crossed_within, crossed-append, crossed_multiple}
 
 -- ---- one permutation
 
@@ -63,7 +53,7 @@ lift_parts braid is m left right front a u arranged same_left same_right over =
     ∙ ap₂ (λ i n. crossed braid (bubble ends) (crossed braid (consecutive (suc i) n) (term (front ++ a ∷ u) 1))) same_left same_right
     ∙ ap (crossed braid (bubble ends)) (carried braid is.field front a u 1 (one_is_element braid.field is.field)
     ∙ ap₂ term (sym (append_assoc front (map (act braid a) u) (a ∷ []))) (one_times braid.field s (met_is_element braid is a u) ∙ sym (times_one braid.field s (met_is_element braid is a u))))
-    ∙ crossed_within braid a (bubble ends) ends v (times braid.field s 1) (bubble_descends ends) (length-append front (map (act braid a) u) ∙ ap (λ n. length front + n) (mapped (act braid a) u) ∙ sym (ap₂ (λ i n. i + n) same_left same_right) ∙ sym (length-append left right))
+    ∙ crossed_within braid a (bubble ends) ends v (times braid.field s 1) (bubble_descends ends) (length-append front (map (act braid a) u) ∙ ap (λ n. length front + n) (length-map u (act braid a)) ∙ sym (ap₂ (λ i n. i + n) same_left same_right) ∙ sym (length-append left right))
     ∙ ap (behind a) (crossed_multiple braid (bubble ends) v s 1)
 
 -- the same, with the greatest end place put in
@@ -102,7 +92,7 @@ block_is_lifted braid is m front a u size over =
     ap (λ i. map (λ ends. lift braid (insert ends i (suc m)) (front ++ a ∷ u)) (permutations m)) (let e : suc (length front) - 1 ≡ length front = omega arith in e)
     ∙ each (permutations m) (listed_is_rearrangement m)
     ∙ ap (λ n. times_letter (scaled braid.field (scalars_met braid a u) (map (λ ends. lift braid ends (front ++ map (act braid a) u)) (permutations n))) a)
-    (sym size ∙ sym (ap (λ n. length front + n) (mapped (act braid a) u)) ∙ sym (length-append front (map (act braid a) u)))
+    (sym size ∙ sym (ap (λ n. length front + n) (length-map u (act braid a))) ∙ sym (length-append front (map (act braid a) u)))
   where
     each : (all : List (List ℕ)) → ((ends : List ℕ) → IsIn ends all → IsRearrangement m ends) →
         map (λ ends. lift braid (insert ends (length front) (suc m)) (front ++ a ∷ u)) all ≡ times_letter (scaled braid.field (scalars_met braid a u) (map (λ ends. lift braid ends (front ++ map (act braid a) u)) all)) a
@@ -117,15 +107,11 @@ blocks_are_summands braid is m front (a ∷ u) w e size over =
     let count : length front + length u ≡ m = (let l : length front + suc (length u) ≡ suc m = sym (length-append front (a ∷ u)) ∙ ap length e ∙ size in omega arith) in
     ap₂ (λ f r. f ++ r)
     (ap (λ x. block braid m x (suc (length front))) (sym e) ∙ block_is_lifted braid is m front a u count (subst (IsWordOver braid.letters) (sym e) over))
-    (ap (λ n. flat_map (block braid m w) (consecutive (suc n) (length u))) (sym (length-push front a)) ∙ blocks_are_summands braid is m next u w (append_assoc front (a ∷ []) u ∙ e) size over)
+    (ap (λ n. flat_map (block braid m w) (consecutive (suc n) (length u))) (sym (pushed_length front a)) ∙ blocks_are_summands braid is m next u w (append_assoc front (a ∷ []) u ∙ e) size over)
 
 map-flat_map : {X Y : Type 0} (f : X → Y) (g : ℕ → List X) (js : List ℕ) → map f (flat_map g js) ≡ flat_map (λ j. map f (g j)) js
 map-flat_map f g [] = refl
 map-flat_map f g (j ∷ js) = map-append f (g j) (flat_map g js) ∙ ap (λ r. map f (g j) ++ r) (map-flat_map f g js)
-
-map-map : {X Y Z : Type 0} (f : Y → Z) (g : X → Y) (xs : List X) → map f (map g xs) ≡ map (λ x. f (g x)) xs
-map-map f g [] = refl
-map-map f g (x ∷ xs) = ap (λ r. f (g x) ∷ r) (map-map f g xs)
 
 same_flat_map : {Y : Type 0} (f g : ℕ → List Y) (js : List ℕ) → ((j : ℕ) → f j ≡ g j) → flat_map f js ≡ flat_map g js
 same_flat_map f g [] h = refl

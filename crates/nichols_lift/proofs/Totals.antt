@@ -36,7 +36,7 @@ unfolding total IsIn
 total_zero k is φ [] h = refl
 total_zero k is φ (j ∷ js) h = ap₂ (plus k) (h j (inl refl)) (total_zero k is φ js (λ i l. h i (inr l))) ∙ plus_zero k 0 (zero_is_element k is)
 
-total-append : (k : FieldValue) → IsField k → (φ : ℕ → ℕ) (is js : List ℕ) → total k φ (is ++ js) ≡ plus k (total k φ is) (total k φ js)
+pub total-append : (k : FieldValue) → IsField k → (φ : ℕ → ℕ) (is js : List ℕ) → total k φ (is ++ js) ≡ plus k (total k φ is) (total k φ js)
 unfolding total
 total-append k field φ [] js = sym (zero_plus k (total k φ js) (total_is_element k field φ js))
 total-append k field φ (i ∷ is) js = ap (plus k (φ i)) (total-append k field φ is js) ∙ sym (plus_assoc k (φ i) (total k φ is) (total k φ js))
@@ -45,7 +45,7 @@ empty : (k : FieldValue) (φ : ℕ → ℕ) → total k φ [] ≡ 0
 unfolding total
 empty k φ = refl
 
-alone : (k : FieldValue) → (φ : ℕ → ℕ) (j : ℕ) → total k φ (j ∷ []) ≡ plus k (φ j) 0
+pub alone : (k : FieldValue) → (φ : ℕ → ℕ) (j : ℕ) → total k φ (j ∷ []) ≡ plus k (φ j) 0
 unfolding total
 alone k φ j = refl
 

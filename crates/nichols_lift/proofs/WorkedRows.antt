@@ -1,9 +1,10 @@
 -- Worked rows over the three transpositions with 101 elements and scalar -1: closed forms of lifts.
-use Rattle.std.proofs.Common.{◌≡◌, ℕ, List, [], ◌∷◌, refl}
+use Rattle.std.proofs.Common.{◌≡◌, ℕ, List, [], ◌∷◌, refl, arith}
 use Rattle.nichols_field.proofs.OnNumerals.{field_on_numerals}
 use Rattle.nichols_tensor.specs.Combination.{Term}
 use Rattle.nichols_braid.specs.Braid.{BraidValue, entry}
 use Rattle.nichols_braid.specs.Crossing.{crossed}
+use Rattle.nichols_braid.specs.Lift.{IsDescending}
 use Rattle.nichols_lift.specs.ClosedForm.{closed_form}
 
 abbrev three : BraidValue
@@ -29,3 +30,10 @@ closed_312 = refl
 crossed_212 : crossed three (2 ∷ 1 ∷ 2 ∷ []) (term (1 ∷ 2 ∷ 3 ∷ []) 1) ≡ term (1 ∷ 3 ∷ 1 ∷ []) 100
 unfolding field_on_numerals entry
 crossed_212 = refl
+
+-- both lists are descending for these end places
+descending_121 : IsDescending (3 ∷ 2 ∷ 1 ∷ []) (1 ∷ 2 ∷ 1 ∷ [])
+descending_121 = (omega arith, (omega arith, (omega arith, (omega arith, (omega arith, tt)))))
+
+descending_212 : IsDescending (3 ∷ 2 ∷ 1 ∷ []) (2 ∷ 1 ∷ 2 ∷ [])
+descending_212 = (omega arith, (omega arith, (omega arith, (omega arith, (omega arith, tt)))))

@@ -1,6 +1,6 @@
 -- What the laws of this crate say.
-use Rattle.std.specs.Prelude.{◌≡◌, ℕ, suc, List, length}
-use Rattle.std.specs.List.{flat_map}
+use Rattle.std.specs.Prelude.{◌≡◌, ℕ, suc, ◌≤◌, true, List, [], ◌++◌, length}
+use Rattle.std.specs.List.{flat_map, Contains}
 use Rattle.nichols_tensor.specs.Combination.{Combination, HasSameValues}
 use Rattle.nichols_tensor.specs.Words.{up_to, IsWordOver, IsOver, HasDegree}
 use Rattle.nichols_braid.specs.Braid.{BraidValue, IsBraid, IsLetter}
@@ -8,10 +8,12 @@ use Rattle.nichols_braid.specs.Crossing.{crossed}
 use Rattle.nichols_braid.specs.Lift.{IsDescending, lift}
 use Rattle.nichols_braid.specs.Symmetrizer.{symmetrized}
 use Rattle.nichols_braid.specs.Derivation.{derived}
-use Rattle.nichols_braid.specs.Kernel.{IsInKernel, IsKilled}
+use Rattle.nichols_braid.specs.Kernel.{Vanishing, IsInKernel, IsKilled}
+use Rattle.nichols_braid.specs.Least.{is_least, basis, candidates}
 use Rattle.nichols_braid.specs.RightProduct.{times_letter}
 use Rattle.nichols_braid.specs.Rearrangement.{IsRearrangement}
 use Rattle.nichols_lift.specs.ClosedForm.{closed_form}
+use Rattle.nichols_lift.specs.Reading.{IsReading, HasOneReading}
 
 -- the lift of a permutation, at a word of its length, is the closed form, and the crossings of any descending list lead to it
 abbrev pub ReducedListsAgree : Type 0
@@ -35,3 +37,22 @@ KernelByDerivations =
 abbrev pub KernelIsRightIdeal : Type 0
 KernelIsRightIdeal =
     (braid : BraidValue) → IsBraid braid → (m : ℕ) (f : Combination) (b : ℕ) → HasDegree m f → IsOver braid.letters f → IsLetter braid b → IsInKernel braid f → IsInKernel braid (times_letter f b)
+
+-- the symmetrizer and the skew derivations give the same least words, bases, normal forms, candidates and relations
+abbrev pub ReadingsAgree : Type 0
+ReadingsAgree = (braid : BraidValue) → IsBraid braid → HasOneReading braid
+
+-- each prefix of a least word is least
+abbrev pub PrefixesAreLeast : Type 0
+PrefixesAreLeast =
+    (braid : BraidValue) → IsBraid braid → (vanishes : Vanishing) → IsReading vanishes → (u v : List ℕ) → IsWordOver braid.letters (u ++ v) → is_least vanishes braid (u ++ v) ≡ true → is_least vanishes braid u ≡ true
+
+-- each least word of degree m is a candidate of degree m
+abbrev pub LeastWordsAreCandidates : Type 0
+LeastWordsAreCandidates =
+    (braid : BraidValue) → IsBraid braid → (vanishes : Vanishing) → IsReading vanishes → (m : ℕ) (w : List ℕ) → length w ≡ m → IsWordOver braid.letters w → is_least vanishes braid w ≡ true → Contains (candidates vanishes braid m) w
+
+-- after a degree with no least word every degree has none
+abbrev pub EmptyDegreesStayEmpty : Type 0
+EmptyDegreesStayEmpty =
+    (braid : BraidValue) → IsBraid braid → (vanishes : Vanishing) → IsReading vanishes → (m n : ℕ) → m ≤ n → basis vanishes braid m ≡ [] → basis vanishes braid n ≡ []

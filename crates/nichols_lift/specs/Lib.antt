@@ -1,2 +1,7 @@
 pub mod ClosedForm
 pub mod Laws
+pub mod Reading
+pub mod Lengths
+pub mod Perm
+pub mod InlinePerm
+pub mod PermFields

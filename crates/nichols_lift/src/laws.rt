@@ -2,7 +2,7 @@
 //!
 //! They hold for every braid and every length (Heckenberger and Schneider, "Hopf Algebras and Root Systems").
 
-ghost use Rattle.nichols_lift.specs.Laws.{ReducedListsAgree, SymmetrizerFactors, KernelByDerivations, KernelIsRightIdeal};
+ghost use Rattle.nichols_lift.specs.Laws.{ReducedListsAgree, SymmetrizerFactors, KernelByDerivations, KernelIsRightIdeal, ReadingsAgree, PrefixesAreLeast, LeastWordsAreCandidates, EmptyDegreesStayEmpty};
 
 /// Reduced lists agree: the crossings of every descending list of a permutation lead to the word and the scalar of its lift,
 /// and these are the closed form, in which each letter is acted on by the earlier ones that end to its right, the nearest first.
@@ -28,4 +28,27 @@ pub fn kernel_by_derivations()
 #[tactic(auto, using(crate::proofs::LiftLaws::kernel_is_right_ideal))]
 pub fn kernel_is_right_ideal()
     ensures { KernelIsRightIdeal }
+{}
+
+/// The symmetrizer and the skew derivations give the same least words, bases, normal forms, candidates and relations.
+pub fn readings_agree()
+    ensures { ReadingsAgree }
+{}
+
+/// Each prefix of a least word is least.
+#[tactic(auto, using(crate::proofs::LiftLaws::prefixes_are_least))]
+pub fn prefixes_are_least()
+    ensures { PrefixesAreLeast }
+{}
+
+/// Each least word is a candidate of its degree: a least word of the degree before with a letter behind.
+#[tactic(auto, using(crate::proofs::LiftLaws::least_words_are_candidates))]
+pub fn least_words_are_candidates()
+    ensures { LeastWordsAreCandidates }
+{}
+
+/// After an empty degree every degree is empty.
+#[tactic(auto, using(crate::proofs::LiftLaws::empty_degrees_stay_empty))]
+pub fn empty_degrees_stay_empty()
+    ensures { EmptyDegreesStayEmpty }
 {}

@@ -1,4 +1,16 @@
-//! Lifts of permutations to words, and the laws of the quantum symmetrizer.
+//! Lifts of permutations to words, and the quantum symmetrizer with its laws.
 #![tactic(auto)]
 
+mod crossing;
+mod image;
 pub mod laws;
+mod lifting;
+mod perm;
+
+pub use crossing::cross_at;
+pub use image::symmetrize;
+pub use lifting::{lift, lift_by};
+pub use perm::Perm;
+
+#[cfg(test)]
+mod tests;

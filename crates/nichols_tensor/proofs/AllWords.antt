@@ -1,6 +1,6 @@
 -- The list of all words of a length: which words it has, that it rises, and which words stand before one of them.
-use Rattle.std.proofs.Common.{◌≡◌, ℕ, zero, suc, ◌<◌, ◌≤◌, List, [], ◌∷◌, ◌++◌, map, length, refl, sym, ◌∙◌, ap, subst, arith, ◌⊎◌, inl, inr}
-use Rattle.std.specs.List.{flat_map, filter, AllByRecursion}
+use Rattle.std.proofs.Common.{◌≡◌, ℕ, zero, suc, ◌<◌, List, [], ◌∷◌, ◌++◌, map, length, refl, sym, ◌∙◌, ap, subst, arith, inl, inr}
+use Rattle.std.specs.List.{filter, AllByRecursion}
 use Rattle.std.specs.Ordering.{is_lt, nat_cmp, ordering_then}
 use Rattle.std.specs.Cmp.{nat_cmp_is}
 use Rattle.std.specs.Cmp.Lexicographic.{slice_cmp}
@@ -81,9 +81,9 @@ words_rise n (suc m) =
     rising-flat_map (λ a b. a < b) (λ a. map (λ w. a ∷ w) (words n m)) (up_to n) (up_to_rises n)
     (λ a i. rising-map (λ w. a ∷ w) (words n m) (λ v w j l less. prepend_less a v w ((from_words n m v j).0 ∙ sym (from_words n m w l).0) less) (words_rise n m))
     (λ a b v w less i j.
-      let (x, k, e) = from_map (λ u. a ∷ u) v (words n m) i in
-      let (y, l, d) = from_map (λ u. b ∷ u) w (words n m) j in
-      subst (λ u. word_cmp u w ≡ Less) (sym e) (subst (λ u. word_cmp (a ∷ x) u ≡ Less) (sym d) (first_less a b x y ((from_words n m x k).0 ∙ sym (from_words n m y l).0) less)))
+    let (x, k, e) = from_map (λ u. a ∷ u) v (words n m) i in
+    let (y, l, d) = from_map (λ u. b ∷ u) w (words n m) j in
+    subst (λ u. word_cmp u w ≡ Less) (sym e) (subst (λ u. word_cmp (a ∷ x) u ≡ Less) (sym d) (first_less a b x y ((from_words n m x k).0 ∙ sym (from_words n m y l).0) less)))
 
 -- ---- the words before a word
 

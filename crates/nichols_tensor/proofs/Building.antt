@@ -1,6 +1,6 @@
 -- Combinations made term by term, and combinations without their zeros.
-use Rattle.std.proofs.Common.{◌≡◌, ◌≢◌, ℕ, Bool, true, false, not, cond, List, [], ◌∷◌, ◌++◌, map, refl, sym, ◌∙◌, ap, subst, nat_eq, inl, inr}
-use Rattle.std.specs.List.{filter, AllByRecursion}
+use Rattle.std.proofs.Common.{◌≡◌, ◌≢◌, ℕ, Bool, true, false, not, cond, List, [], ◌∷◌, ◌++◌, refl, sym, ◌∙◌, ap, subst, nat_eq, inl, inr}
+use Rattle.std.specs.List.{AllByRecursion}
 use Rattle.std.proofs.lemmas.List.{map-append, append-nil}
 use Rattle.std.proofs.lemmas.List.Elements.{filter-append}
 use Rattle.std.proofs.lemmas.Bool.Decides.{Decides-eqb}
@@ -8,7 +8,7 @@ use Rattle.nichols_field.specs.Field.{FieldValue, IsField, IsElement, plus, time
 use Rattle.nichols_field.proofs.FieldLaws.{plus_zero, times_is_element, times_eq_zero}
 use Rattle.nichols_field.proofs.FieldAlgebra.{zero_plus, chosen_is_element}
 use Rattle.nichols_tensor.specs.Combination.{Term, Combination, value_at, HasSameValues, same_letters, words_of, AllElements, AllNonzero, without_zeros, scaled}
-use Rattle.nichols_tensor.specs.WordOrder.{word_cmp, IsBelowFirst, IsRising, IsOrdered}
+use Rattle.nichols_tensor.specs.WordOrder.{IsBelowFirst, IsRising, IsOrdered}
 use Rattle.nichols_tensor.proofs.Values.{value_is_element, value_at-append, value_at-scaled}
 use Rattle.nichols_tensor.proofs.Order.{below_after, words_of-push}
 use Rattle.nichols_tensor.proofs.Over.{all-scaled}

@@ -10,3 +10,4 @@ pub mod Letters
 pub mod Rising
 pub mod AllWords
 pub mod Tests
+pub mod Together

@@ -1,5 +1,5 @@
 -- The word order is total, and what follows of lists of words that rise.
-use Rattle.std.proofs.Common.{◌≡◌, ◌≢◌, ℕ, List, [], ◌∷◌, ◌++◌, length, map, refl, sym, ◌∙◌, ap, subst}
+use Rattle.std.proofs.Common.{◌≡◌, ◌≢◌, ℕ, List, [], ◌∷◌, ◌++◌, length, refl, sym, ◌∙◌, ap}
 use Rattle.std.specs.Ordering.{nat_cmp, eq_by_cmp, ordering_then, ordering_reverse}
 use Rattle.std.specs.declared.cmp.Ordering.{Ordering}
 use Rattle.std.specs.declared.cmp.Ordering.TheVariants.{Less, Equal, Greater}
@@ -31,7 +31,7 @@ less_back v w h = word_cmp_total.antisymm w v ∙ ap ordering_reverse h
 pub greater_back : (v w : List ℕ) → word_cmp v w ≡ Less → word_cmp w v ≡ Greater
 greater_back v w h = word_cmp_total.antisymm w v ∙ ap ordering_reverse h
 
-own_reverse : (o : Ordering) → o ≡ ordering_reverse o → o ≡ Equal
+pub own_reverse : (o : Ordering) → o ≡ ordering_reverse o → o ≡ Equal
 own_reverse Less h = cc
 own_reverse Equal h = refl
 own_reverse Greater h = cc

@@ -1,19 +1,17 @@
 -- Combinations in order: the words rise and no coefficient is 0. Their values, and that the values determine the terms.
-use Rattle.std.proofs.Common.{◌≡◌, ◌≢◌, ℕ, zero, suc, ◌<◌, Bool, true, false, not, cond, List, [], ◌∷◌, ◌++◌, map, length, refl, sym, ◌∙◌, ap, ap₂, subst, nat_eq, ◌⊎◌, inl, inr}
-use Rattle.std.specs.List.{filter, AllByRecursion}
+use Rattle.std.proofs.Common.{◌≡◌, ◌≢◌, ℕ, Bool, true, false, cond, List, [], ◌∷◌, ◌++◌, refl, sym, ◌∙◌, ap, ap₂, subst, ◌⊎◌, inl, inr}
 use Rattle.std.specs.Cmp.Lexicographic.{same_text, other_text}
 use Rattle.std.specs.declared.cmp.Ordering.{Ordering}
 use Rattle.std.specs.declared.cmp.Ordering.TheVariants.{Less, Equal, Greater}
-use Rattle.std.proofs.lemmas.Bool.Decides.{Decides-eqb}
 use Rattle.nichols_field.specs.Field.{FieldValue, IsField, IsElement, plus, times}
 use Rattle.nichols_field.proofs.FieldLaws.{plus_comm, plus_zero, times_zero, zero_is_element}
-use Rattle.nichols_field.proofs.FieldAlgebra.{zero_plus, plus_cancel, chosen_is_element, times_chosen, plus_chosen, swap_first, swap_middle}
+use Rattle.nichols_field.proofs.FieldAlgebra.{zero_plus, plus_cancel, chosen_is_element}
 use Rattle.nichols_tensor.specs.Members.{IsIn}
-use Rattle.nichols_tensor.specs.Combination.{Term, Combination, value_at, HasSameValues, same_letters, words_of, AllElements, AllNonzero, AllAmong, without_zeros, scaled}
+use Rattle.nichols_tensor.specs.Combination.{Term, Combination, value_at, HasSameValues, same_letters, words_of, AllElements, AllAmong}
 use Rattle.nichols_tensor.specs.WordOrder.{word_cmp, IsBelowFirst, IsRising, IsOrdered}
 use Rattle.nichols_tensor.proofs.Entries.{in_left, in_right}
 use Rattle.nichols_tensor.proofs.Values.{value_is_element, same_itself}
-use Rattle.nichols_tensor.proofs.Order.{word_cmp_total, same_word, less_back, less_is_other, below_after, words_of-push}
+use Rattle.nichols_tensor.proofs.Order.{same_word, less_back, less_is_other, below_after}
 
 -- ---- entries of lists of words
 

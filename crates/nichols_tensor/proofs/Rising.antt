@@ -1,5 +1,5 @@
 -- Lists of words that rise: when they do, where their words stand, and that the words alone determine such a list.
-use Rattle.std.proofs.Common.{◌≡◌, ℕ, zero, suc, ◌<◌, Bool, true, false, cond, List, [], ◌∷◌, ◌++◌, map, length, refl, sym, ◌∙◌, ap, ap₂, subst, arith, ◌⊎◌, inl, inr, append_assoc}
+use Rattle.std.proofs.Common.{◌≡◌, ℕ, zero, suc, ◌<◌, Bool, true, false, cond, List, [], ◌∷◌, ◌++◌, map, length, refl, sym, ◌∙◌, ap, ap₂, subst, arith, inl, inr, append_assoc}
 use Rattle.std.specs.List.{flat_map, filter, AllByRecursion}
 use Rattle.std.specs.Ordering.{is_lt}
 use Rattle.std.specs.declared.cmp.Ordering.{Ordering}
@@ -7,9 +7,8 @@ use Rattle.std.specs.declared.cmp.Ordering.TheVariants.{Less, Equal, Greater}
 use Rattle.nichols_tensor.specs.Members.{IsIn}
 use Rattle.nichols_tensor.specs.Positions.{word_at}
 use Rattle.nichols_tensor.specs.WordOrder.{word_cmp, IsBelowFirst, IsRising}
-use Rattle.nichols_tensor.proofs.Entries.{in_left, in_right, in_either}
-use Rattle.nichols_tensor.proofs.Over.{all_at}
-use Rattle.nichols_tensor.proofs.Order.{word_cmp_total, word_cmp_itself, same_word, less_back, greater_back, less_is_other, below_after}
+use Rattle.nichols_tensor.proofs.Entries.{in_right, in_either}
+use Rattle.nichols_tensor.proofs.Order.{word_cmp_itself, greater_back, less_is_other, below_after}
 
 -- ---- which lists rise
 
@@ -28,9 +27,10 @@ below_all w (u ∷ vs) v h r (inr i) = below_all w vs v (below_after w u vs h r.
 pub rising-append : (vs us : List (List ℕ)) → IsRising vs → IsRising us → ((v u : List ℕ) → IsIn v vs → IsIn u us → word_cmp v u ≡ Less) → IsRising (vs ++ us)
 unfolding IsIn
 rising-append [] us r s h = s
-rising-append (v ∷ vs) us r s h =
-    (below_each v (vs ++ us) (λ u i. elim (in_either u vs us i) [ inl j ↦ below_all v vs u r.0 r.1 j | inr j ↦ h v u (inl refl) j ]),
-    rising-append vs us r.1 s (λ x u i j. h x u (inr i) j))
+rising-append (v ∷ vs) us r s h = (
+  below_each v (vs ++ us) (λ u i. elim (in_either u vs us i) [ inl j ↦ below_all v vs u r.0 r.1 j | inr j ↦ h v u (inl refl) j ]),
+  rising-append vs us r.1 s (λ x u i j. h x u (inr i) j),
+)
 
 pub rising-map : (f : List ℕ → List ℕ) (vs : List (List ℕ)) → ((v w : List ℕ) → IsIn v vs → IsIn w vs → word_cmp v w ≡ Less → word_cmp (f v) (f w) ≡ Less) → IsRising vs → IsRising (map f vs)
 unfolding IsIn

@@ -1,7 +1,7 @@
 -- Tests and functions that agree on the entries of a list.
-use Rattle.std.proofs.Common.{◌≡◌, Bool, true, false, cond, ◌||◌, List, [], ◌∷◌, map, refl, sym, ◌∙◌, ap, ap₂, inl, inr}
+use Rattle.std.proofs.Common.{◌≡◌, Bool, true, false, cond, ◌||◌, List, [], ◌∷◌, map, refl, sym, ap₂, inl, inr}
 use Rattle.std.specs.List.{filter, find, list_any, AllByRecursion}
-use Rattle.std.specs.Prelude.{Option, Some}
+use Rattle.std.specs.Prelude.{Some}
 use Rattle.nichols_tensor.specs.Members.{IsIn}
 
 -- two answers each of which is yes where the other is

@@ -1,14 +1,13 @@
 -- Coefficients by a search, and as values.
-use Rattle.std.proofs.Common.{◌≡◌, ◌≢◌, ℕ, zero, suc, ◌+◌, ◌<◌, ◌≤◌, Bool, true, false, cond, List, [], ◌∷◌, length, map, get_or, add-one, refl, sym, ◌∙◌, ap, subst, arith, Result, Ok, Err, ◌⊎◌, inl, inr}
-use Rattle.std.specs.Cmp.Lexicographic.{same_text, other_text}
+use Rattle.std.proofs.Common.{◌≡◌, ◌≢◌, ℕ, zero, suc, ◌<◌, Bool, true, false, cond, List, [], ◌∷◌, length, get_or, add-one, refl, sym, ◌∙◌, ap, subst, arith, Result, Ok, Err, inl, inr}
+use Rattle.std.specs.Cmp.Lexicographic.{same_text}
 use Rattle.std.proofs.lemmas.Bool.{cases_lt}
 use Rattle.std.specs.List.Sorted.{IsPartitionPoint, IsBinarySearchResult, IsSearchInRange, IsSortedByKey}
 use Rattle.std.specs.Ordering.{is_lt}
-use Rattle.std.specs.declared.cmp.Ordering.{Ordering}
 use Rattle.std.specs.declared.cmp.Ordering.TheVariants.{Less, Equal, Greater}
 use Rattle.std.specs.Result.{MatchResult}
 use Rattle.std.proofs.lemmas.List.Sorted.{searchable_from_sorted}
-use Rattle.nichols_field.specs.Field.{FieldValue, IsField, IsElement, plus}
+use Rattle.nichols_field.specs.Field.{FieldValue, IsField, plus}
 use Rattle.nichols_field.proofs.FieldLaws.{plus_zero}
 use Rattle.nichols_field.proofs.FieldAlgebra.{zero_plus}
 use Rattle.nichols_tensor.specs.Members.{IsIn}
@@ -16,7 +15,7 @@ use Rattle.nichols_tensor.specs.Combination.{Term, Combination, value_at, same_l
 use Rattle.nichols_tensor.specs.WordOrder.{word_cmp, IsRising}
 use Rattle.nichols_tensor.proofs.Values.{value_is_element, same_itself}
 use Rattle.nichols_tensor.proofs.Order.{word_cmp_total, word_cmp_itself, same_word, greater_back}
-use Rattle.nichols_tensor.proofs.Ordered.{before_all, zero_at_others, value_at_other}
+use Rattle.nichols_tensor.proofs.Ordered.{before_all, zero_at_others}
 use Rattle.nichols_words.specs.Comb.{coefficient_at}
 
 -- ---- coefficients are values

@@ -1,6 +1,6 @@
 -- A letter put behind an inline word, and an inline word cut off.
-use Rattle.std.proofs.Common.{◌≡◌, ℕ, ◌+◌, ◌-◌, ◌<◌, ◌≤◌, List, [], ◌∷◌, ◌++◌, length, take, drop, set, refl, arith, rules, length-set, ◌∙◌, ap, sym, subst}
-use Rattle.std.proofs.lemmas.Grind.{common_steps, take-set_at}
+use Rattle.std.proofs.Common.{◌≡◌, ℕ, ◌+◌, ◌-◌, ◌<◌, ◌≤◌, List, [], ◌∷◌, ◌++◌, length, take, drop, set, refl, arith, length-set, ◌∙◌, ap, sym, subst}
+use Rattle.std.proofs.lemmas.Grind.{take-set_at}
 use Rattle.std.specs.Prelude.{replicate}
 use Rattle.std.proofs.lemmas.List.{drop-replicate, drop-set-lt, drop-drop, append-nil, length-replicate, length-append, length-take-le, length-drop, take-take}
 use Rattle.std.proofs.Math.Seq.{drop-append_seam}

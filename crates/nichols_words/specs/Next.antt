@@ -1,5 +1,5 @@
 -- The next term of the sum of a combination and a multiple of another.
-use Rattle.std.specs.Prelude.{◌≡◌, ℕ, List, [], ◌∷◌}
+use Rattle.std.specs.Prelude.{◌≡◌, ℕ, ◌∷◌}
 use Rattle.nichols_field.specs.Field.{FieldValue, plus, times}
 use Rattle.nichols_tensor.specs.Combination.{Term, Combination, words_of}
 use Rattle.nichols_tensor.specs.WordOrder.{IsBelowFirst}

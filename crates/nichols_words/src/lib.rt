@@ -6,6 +6,7 @@ mod merge;
 mod multiples;
 mod order;
 mod relation;
+mod sum;
 mod term;
 mod word;
 

@@ -1,6 +1,6 @@
 //! Words of at most 60 letters, kept inline.
 
-ghost use Rattle.std.specs.Prelude.{◌≡◌, ◌<◌, ◌≤◌, ◌↔◌, ◌++◌, ◌∷◌, [], IsTrue, length, take, slice_index};
+ghost use Rattle.std.specs.Prelude.{◌≡◌, ◌<◌, ◌≤◌, ◌↔◌, ◌++◌, ◌∷◌, [], IsTrue, length, take, slice_index, slice_set};
 ghost use Rattle.std.specs.Bool.{OnTrue, OnFalse};
 ghost use Rattle.nichols_tensor.specs.Words.{IsLetterOf};
 ghost use Rattle.nichols_words.specs.Word.{IsWord, letter_limit, word_limit};
@@ -86,6 +86,15 @@ impl Word {
         let mut letters = self.letters;
         letters[k..].fill(0);
         Word { len: k, letters }
+    }
+
+    /// Puts another letter in the place of that at index k, which counts from 0.
+    pub fn set(&mut self, k: usize, letter: u8)
+        requires within { k < length self.old }
+        requires letter { IsLetterOf letter_limit letter }
+        ensures { self.new ≡ slice_set self.old k letter }
+    {
+        self.letters[k] = letter;
     }
 
     /// Puts a letter behind the others. A full word, of 60 letters, stays as it is, and the answer is false.

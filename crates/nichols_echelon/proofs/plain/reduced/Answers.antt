@@ -23,6 +23,6 @@ loop-i-preserved c =
           w.if-coefficient-ne0.false)
     ]
 
-pub returns : goal.returns
-returns c =
+pub returns-clause-remainder : goal.returns-clause-remainder
+returns-clause-remainder c =
     reduced_all c.args.field c.modulus-modulus.ensures.field c.args.kept.now c.args.row.now c.loop-i.cells.items c.loop-i.steps.items c.loop-i.i c.requires.kept (omega arith) c.loop-i.invariant

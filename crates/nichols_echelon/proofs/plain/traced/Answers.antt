@@ -14,12 +14,12 @@ loop-cell-init c =
 
 pub neg-back-requires : goal.neg-back-requires
 neg-back-requires c =
-    let p : IsPopped c.args.field c.args.kept.now c.pop.new.self.items c.in-Some.cell = popped c.args.field c.args.kept.now c.args.steps.items c.loop-cell.left.items c.pop.new.self.items (reverse c.loop-cell.out.items) c.in-Some.cell c.requires.kept c.in-Some.ensures.items c.loop-cell.invariant in
+    let p : IsPopped c.args.field c.args.kept.now c.pop.new.self.items c.in-Some.cell = popped c.args.field c.args.kept.now c.args.steps.items c.loop-cell.left.items c.pop.new.self.items (reverse c.loop-cell.out.items) c.in-Some.cell c.requires.kept c.requires.rise c.in-Some.ensures.items c.loop-cell.invariant in
     subst (λ (d : Cell). IsElement c.args.field d.coefficient) (sym c.cell.view_is) p.element
 
 pub bounds-kept-cell-inside : goal.bounds-kept-cell-inside
 bounds-kept-cell-inside c =
-    let p : IsPopped c.args.field c.args.kept.now c.pop.new.self.items c.in-Some.cell = popped c.args.field c.args.kept.now c.args.steps.items c.loop-cell.left.items c.pop.new.self.items (reverse c.loop-cell.out.items) c.in-Some.cell c.requires.kept c.in-Some.ensures.items c.loop-cell.invariant in
+    let p : IsPopped c.args.field c.args.kept.now c.pop.new.self.items c.in-Some.cell = popped c.args.field c.args.kept.now c.args.steps.items c.loop-cell.left.items c.pop.new.self.items (reverse c.loop-cell.out.items) c.in-Some.cell c.requires.kept c.requires.rise c.in-Some.ensures.items c.loop-cell.invariant in
     subst (λ (d : Cell). d.column < length c.args.kept.now) (sym c.cell.view_is) p.inside
 
 -- the steps of the kept row that was read
@@ -29,24 +29,24 @@ read_steps kept c d e f steps same inside read view is =
 
 pub merge-requires-clause-right_elements : goal.merge-requires-clause-right_elements
 merge-requires-clause-right_elements c =
-    let p : IsPopped c.args.field c.args.kept.now c.pop.new.self.items c.in-Some.cell = popped c.args.field c.args.kept.now c.args.steps.items c.loop-cell.left.items c.pop.new.self.items (reverse c.loop-cell.out.items) c.in-Some.cell c.requires.kept c.in-Some.ensures.items c.loop-cell.invariant in
+    let p : IsPopped c.args.field c.args.kept.now c.pop.new.self.items c.in-Some.cell = popped c.args.field c.args.kept.now c.args.steps.items c.loop-cell.left.items c.pop.new.self.items (reverse c.loop-cell.out.items) c.in-Some.cell c.requires.kept c.requires.rise c.in-Some.ensures.items c.loop-cell.invariant in
     subst (AllElements c.args.field)
     (sym (read_steps c.args.kept.now c.in-Some.cell _ c.index-kept-cell.result _ c.as_slice-in-Some.result.now c.cell.view_is p.inside c.index-kept-cell.is c.one.view_is c.as_slice-in-Some.ensures.value)) p.own.elements
 
 pub merge-requires-clause-left_rising : goal.merge-requires-clause-left_rising
 merge-requires-clause-left_rising c =
-    let p : IsPopped c.args.field c.args.kept.now c.pop.new.self.items c.in-Some.cell = popped c.args.field c.args.kept.now c.args.steps.items c.loop-cell.left.items c.pop.new.self.items (reverse c.loop-cell.out.items) c.in-Some.cell c.requires.kept c.in-Some.ensures.items c.loop-cell.invariant in
+    let p : IsPopped c.args.field c.args.kept.now c.pop.new.self.items c.in-Some.cell = popped c.args.field c.args.kept.now c.args.steps.items c.loop-cell.left.items c.pop.new.self.items (reverse c.loop-cell.out.items) c.in-Some.cell c.requires.kept c.requires.rise c.in-Some.ensures.items c.loop-cell.invariant in
     (subst IsRow (sym c.as_slice.ensures.value) p.front_shape).rising
 
 pub merge-requires-clause-right_rising : goal.merge-requires-clause-right_rising
 merge-requires-clause-right_rising c =
-    let p : IsPopped c.args.field c.args.kept.now c.pop.new.self.items c.in-Some.cell = popped c.args.field c.args.kept.now c.args.steps.items c.loop-cell.left.items c.pop.new.self.items (reverse c.loop-cell.out.items) c.in-Some.cell c.requires.kept c.in-Some.ensures.items c.loop-cell.invariant in
+    let p : IsPopped c.args.field c.args.kept.now c.pop.new.self.items c.in-Some.cell = popped c.args.field c.args.kept.now c.args.steps.items c.loop-cell.left.items c.pop.new.self.items (reverse c.loop-cell.out.items) c.in-Some.cell c.requires.kept c.requires.rise c.in-Some.ensures.items c.loop-cell.invariant in
     (subst IsRow
-    (sym (read_steps c.args.kept.now c.in-Some.cell _ c.index-kept-cell.result _ c.as_slice-in-Some.result.now c.cell.view_is p.inside c.index-kept-cell.is c.one.view_is c.as_slice-in-Some.ensures.value)) p.own.shape).rising
+    (sym (read_steps c.args.kept.now c.in-Some.cell _ c.index-kept-cell.result _ c.as_slice-in-Some.result.now c.cell.view_is p.inside c.index-kept-cell.is c.one.view_is c.as_slice-in-Some.ensures.value)) p.own_shape).rising
 
 pub loop-cell-preserved : goal.loop-cell-preserved
 loop-cell-preserved c =
-    let p : IsPopped c.args.field c.args.kept.now c.pop.new.self.items c.in-Some.cell = popped c.args.field c.args.kept.now c.args.steps.items c.loop-cell.left.items c.pop.new.self.items (reverse c.loop-cell.out.items) c.in-Some.cell c.requires.kept c.in-Some.ensures.items c.loop-cell.invariant in
+    let p : IsPopped c.args.field c.args.kept.now c.pop.new.self.items c.in-Some.cell = popped c.args.field c.args.kept.now c.args.steps.items c.loop-cell.left.items c.pop.new.self.items (reverse c.loop-cell.out.items) c.in-Some.cell c.requires.kept c.requires.rise c.in-Some.ensures.items c.loop-cell.invariant in
     subst (λ (cs : List Cell). Tracing c.args.field c.args.kept.now c.args.steps.items c.in_ok-left.left.items cs)
     (sym (ap reverse c.in_ok-push.ensures.items ∙ reverse-push c.loop-cell.out.items c.in-Some.cell))
     (traced_step c.args.field c.modulus-modulus.ensures.field c.args.kept.now c.args.steps.items c.loop-cell.left.items c.pop.new.self.items (reverse c.loop-cell.out.items) c.in-Some.cell c.requires.kept c.in-Some.ensures.items c.loop-cell.invariant
@@ -57,7 +57,7 @@ loop-cell-preserved c =
 
 pub loop-cell-smaller : goal.loop-cell-smaller
 loop-cell-smaller c =
-    let p : IsPopped c.args.field c.args.kept.now c.pop.new.self.items c.in-Some.cell = popped c.args.field c.args.kept.now c.args.steps.items c.loop-cell.left.items c.pop.new.self.items (reverse c.loop-cell.out.items) c.in-Some.cell c.requires.kept c.in-Some.ensures.items c.loop-cell.invariant in
+    let p : IsPopped c.args.field c.args.kept.now c.pop.new.self.items c.in-Some.cell = popped c.args.field c.args.kept.now c.args.steps.items c.loop-cell.left.items c.pop.new.self.items (reverse c.loop-cell.out.items) c.in-Some.cell c.requires.kept c.requires.rise c.in-Some.ensures.items c.loop-cell.invariant in
     (traced_step c.args.field c.modulus-modulus.ensures.field c.args.kept.now c.args.steps.items c.loop-cell.left.items c.pop.new.self.items (reverse c.loop-cell.out.items) c.in-Some.cell c.requires.kept c.in-Some.ensures.items c.loop-cell.invariant
     c.neg-back.result c.in_ok-left.left.items c.as_slice.result.now c.as_slice-in-Some.result.now
     (c.neg-back.ensures.negative ∙ ap (λ (d : Cell). negative c.args.field d.coefficient) c.cell.view_is) c.as_slice.ensures.value

@@ -1,8 +1,7 @@
-use Rattle.std.proofs.Common.{◌≡◌, ℕ, List, [], ◌∷◌, ◌++◌, sym, ◌∙◌, ap, subst, refl, arith, length}
+use Rattle.std.proofs.Common.{rules, arith}
 use Rattle.std.proofs.lemmas.List.{nil_from_length}
 use Rattle.std.proofs.lemmas.Bool.Decides.{nat_tests}
-use Rattle.nichols_tensor.specs.Combination.{Term}
-use Rattle.nichols_words.proofs.Merging.{Merging, merging_start, merging-push, merging-skip, fewer, merged_value, merged_shape}
+use Rattle.nichols_words.proofs.Merging.{merging_start, merging-push, merging-skip, fewer, merged_value, merged_shape}
 use Rattle.nichols_words.proofs.merge.merge.Goals.{then-is_empty, else-is_empty}
 use Rattle.nichols_words.proofs.merge.merge.Goals as goal
 
@@ -18,11 +17,11 @@ loop-xs-smaller c = fewer _ _ _ _ _ _ _ c.next-term.ensures
 pub loop-xs-preserved-in_ok-push : goal.loop-xs-preserved-in_ok-push
 loop-xs-preserved-in_ok-push c =
     rw c.in_ok-push.ensures.items
-    (merging-push c.args.field c.modulus-modulus.ensures.field c.args.by c.args.left.now c.args.right.now c.loop-xs.out.items c.loop-xs.xs.now c.loop-xs.ys.now c.next-term.result.0 c.next-term.result.1.now c.next-term.result.2.now c.next-term.ensures (λ e. c.if-term-ne0.true (ap (λ (t : Term). t.coefficient) c.term.view_is ∙ e)) c.loop-xs.invariant)
+    (merging-push c.args.field c.modulus-modulus.ensures.field c.args.by c.args.left.now c.args.right.now c.loop-xs.out.items c.loop-xs.xs.now c.loop-xs.ys.now c.next-term.result.0 c.next-term.result.1.now c.next-term.result.2.now c.next-term.ensures (search rules) c.loop-xs.invariant)
 
 pub loop-xs-preserved : goal.loop-xs-preserved
 loop-xs-preserved c =
-    merging-skip c.args.field c.modulus-modulus.ensures.field c.args.by c.args.left.now c.args.right.now c.loop-xs.out.items c.loop-xs.xs.now c.loop-xs.ys.now c.next-term.result.0 c.next-term.result.1.now c.next-term.result.2.now c.next-term.ensures (sym (ap (λ (t : Term). t.coefficient) c.term.view_is) ∙ c.if-term-ne0.false) c.loop-xs.invariant
+    merging-skip c.args.field c.modulus-modulus.ensures.field c.args.by c.args.left.now c.args.right.now c.loop-xs.out.items c.loop-xs.xs.now c.loop-xs.ys.now c.next-term.result.0 c.next-term.result.1.now c.next-term.result.2.now c.next-term.ensures (search rules) c.loop-xs.invariant
 
 pub returns-clause-value : goal.returns-clause-value
 returns-clause-value c =

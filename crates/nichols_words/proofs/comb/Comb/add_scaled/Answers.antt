@@ -1,4 +1,4 @@
-use Rattle.std.proofs.Common.{◌≡◌, ◌++◌, ℕ, List, subst, sym}
+use Rattle.std.proofs.Common.{◌≡◌, ◌++◌, ℕ, List, subst}
 use Rattle.nichols_field.specs.Field.{FieldValue, IsField, plus, times}
 use Rattle.nichols_tensor.specs.Combination.{Combination, AllAmong, AllElements, value_at, words_of}
 use Rattle.nichols_tensor.specs.WordOrder.{IsOrdered}

@@ -1,6 +1,5 @@
-use Rattle.std.proofs.Common.{◌≡◌, ◌∙◌, ℕ, List, length, ap, sym, subst}
-use Rattle.nichols_field.specs.Field.{IsElement, times}
-use Rattle.nichols_tensor.specs.Combination.{Combination, AllElements, value_at, scaled, without_zeros, words_of}
+use Rattle.std.proofs.Common.{◌≡◌, ◌∙◌, length, ap, sym, subst}
+use Rattle.nichols_tensor.specs.Combination.{AllElements, value_at, scaled, without_zeros}
 use Rattle.nichols_tensor.specs.WordOrder.{IsOrdered}
 use Rattle.nichols_tensor.specs.Words.{IsOver, IsWordOver, HasDegree}
 use Rattle.nichols_tensor.proofs.Building.{nonzero-scaled, without_zeros-nonzero, value_at-multiple, ordered-multiple, elements-multiple, all-multiple}

@@ -1,5 +1,4 @@
-use Rattle.std.proofs.Common.{◌≡◌, ◌∙◌, ◌∷◌, [], rules, ap, arith}
-use Rattle.std.proofs.lemmas.Grind.{common_steps}
+use Rattle.std.proofs.Common.{◌≡◌, ◌∙◌, ◌∷◌, [], rules, ap}
 use Rattle.nichols_tensor.specs.Combination.{Term, value_at, without_zeros}
 use Rattle.nichols_tensor.proofs.Building.{value_at-one}
 use Rattle.nichols_words.proofs.comb.Comb.single.Goals as goal

@@ -1,4 +1,4 @@
-use Rattle.std.proofs.Common.{◌≡◌, ◌≤◌, ◌-◌, ℕ, length, take, subst, sym, ap, arith, rules}
+use Rattle.std.proofs.Common.{◌≤◌, length, subst, sym, arith, rules}
 use Rattle.std.proofs.lemmas.Grind.{common_steps}
 use Rattle.nichols_words.specs.Inline.{length_kept}
 use Rattle.nichols_words.proofs.Push.{inline-prefix}

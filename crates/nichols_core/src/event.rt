@@ -1,0 +1,34 @@
+//! The stages of a block and the events of the shelf machine.
+
+/// Where a block stands.
+#[derive(Clone, Copy, Debug, PartialEq, Eq, Drop)]
+pub enum Stage {
+    /// Some worker owes it and may take it.
+    Ready,
+    /// The worker is making it.
+    Held(u32),
+    /// Its holder found that this lower block isn't published, and let it go.
+    Parked(u32),
+    /// The block that it waited for was published by this worker, who has to release it.
+    Resumed(u32),
+    /// It is made, and its value is at all edges out of it.
+    Published,
+}
+
+/// What a worker does to a block. A letter is from 1 to 24.
+#[derive(Clone, Copy, Debug, PartialEq, Eq, Drop)]
+pub enum Event {
+    /// Holds the block, where it is ready.
+    Take { worker: u32, block: u32 },
+    /// Asks for the lower block of the edge of that letter into the block, and parks the block where the
+    /// lower one isn't published.
+    Ask { worker: u32, block: u32, letter: u8 },
+    /// Picks the value at the edge of that letter into the block.
+    Pick { worker: u32, block: u32, letter: u8 },
+    /// Lays the block's value at the edge of that letter out of it.
+    Lay { worker: u32, block: u32, letter: u8 },
+    /// Publishes the block, and resumes every block that is parked on it.
+    Publish { worker: u32, block: u32 },
+    /// Makes a resumed block ready, so that the worker owes it.
+    Release { worker: u32, block: u32 },
+}

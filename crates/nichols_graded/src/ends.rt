@@ -1,0 +1,26 @@
+//! How the degrees of an algebra end.
+
+/// Why the degrees stop before an empty one.
+#[derive(Clone, Copy, Debug, PartialEq, Eq)]
+pub enum Stop {
+    /// The next degree is beyond the degree limit.
+    DegreeLimit,
+}
+
+/// The end of the degrees.
+#[derive(Clone, Copy, Debug, PartialEq, Eq)]
+pub enum End {
+    /// The last finished degree is empty, and so are all later ones.
+    Closed,
+    /// No further degree is made.
+    Stopped(Stop),
+}
+
+/// What one call made.
+#[derive(Clone, Copy, Debug)]
+pub struct Advance {
+    /// How many degrees were finished, 0 or 1.
+    pub finished: u32,
+    /// The end, where it was reached in this call.
+    pub end: Option<End>,
+}

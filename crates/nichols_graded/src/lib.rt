@@ -1,0 +1,11 @@
+//! The degrees of an algebra one after the other, until it ends. What is said of them is defined by the quantum symmetrizers.
+#![tactic(auto)]
+
+mod ends;
+mod graded;
+
+pub use ends::{Advance, End, Stop};
+pub use graded::Graded;
+
+#[cfg(test)]
+mod tests;

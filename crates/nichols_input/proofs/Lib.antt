@@ -1,0 +1,4 @@
+pub mod Found
+pub mod OnLiterals
+pub mod Prepend
+pub mod WorkedDocuments

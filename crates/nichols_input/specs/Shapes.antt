@@ -1,0 +1,27 @@
+-- The shapes that values of a document may have.
+use Rattle.std.specs.Prelude.{ℤ, List, [], Option, Some, option_map, option_and_then}
+use Rattle.std.specs.Option.{option_or}
+use Rattle.nichols_braid.specs.Faults.{GivenScalars, constant, table, put_first}
+use Rattle.toml.specs.Data.{Data, Items, no_items, item, as_integer, as_array}
+
+-- the integers among which each item is one
+abbrev pub integers_in : Items → Option (List ℤ)
+integers_in no_items = Some []
+integers_in (item d ds) = put_first (as_integer d) (integers_in ds)
+
+-- an array of integers
+abbrev pub as_integers : Data → Option (List ℤ)
+as_integers d = option_and_then integers_in (as_array d)
+
+-- the rows, where each item is an array of integers
+abbrev pub rows_in : Items → Option (List (List ℤ))
+rows_in no_items = Some []
+rows_in (item d ds) = put_first (as_integers d) (rows_in ds)
+
+-- an array of arrays of integers
+abbrev pub as_rows : Data → Option (List (List ℤ))
+as_rows d = option_and_then rows_in (as_array d)
+
+-- an integer, which stands at every place, or else an array of arrays of integers
+abbrev pub as_scalars : Data → Option GivenScalars
+as_scalars d = option_or (option_map constant (as_integer d)) (option_map table (as_rows d))

@@ -1,0 +1,89 @@
+//! Images under the quantum symmetrizer.
+
+ghost use Rattle.std.specs.Prelude.{◌≡◌, ◌≤◌, ◌<◌, ◌++◌, ℕ, IfOk, length};
+ghost use Rattle.std.specs.Result.{OnOk};
+ghost use Rattle.std.specs.List.{AllByRecursion};
+ghost use Rattle.nichols_tensor.specs.Combination.{AllElements, HasSameValues};
+ghost use Rattle.nichols_tensor.specs.WordOrder.{IsOrdered};
+ghost use Rattle.nichols_tensor.specs.Words.{HasDegree, IsLetterOf, IsOver};
+ghost use Rattle.nichols_words.specs.Word.{letter_limit, word_limit};
+ghost use Rattle.nichols_braid.specs.RightProduct.{times_letter};
+ghost use Rattle.nichols_braid.specs.Symmetrizer.{symmetrized};
+ghost use Rattle.nichols_lift.specs.Lengths.{AllAtMost, symmetrizer_limit};
+
+use nichols_braid::Braid;
+use nichols_deriv::derive;
+use nichols_words::{Comb, Term, Word};
+use std::alloc::{AllocError, Global};
+
+/// The image of a combination of words of at most 7 letters under the quantum symmetrizer: of each word that of its own degree.
+///
+/// It is found by the factorisation of the symmetrizer through the skew derivations, and not by a lift for each permutation.
+/// The source is Heckenberger and Schneider, "Hopf Algebras and Root Systems".
+pub fn symmetrize(alloc: Global, braid: &Braid, comb: &Comb) -> Result<Comb, AllocError>
+    requires lengths { AllAtMost symmetrizer_limit comb.now }
+    requires letters { IsOver braid.now.letters comb.now }
+    requires elements { AllElements braid.now.field comb.now }
+    ensures value { IfOk result (λ r. HasSameValues braid.now.field r (symmetrized braid.now comb.now)) }
+    ensures shape { IfOk result IsOrdered }
+    ensures elements { IfOk result (AllElements braid.now.field) }
+    ensures letters { IfOk result (IsOver braid.now.letters) }
+    ensures degree { IfOk result (λ r. (m : ℕ) → HasDegree m comb.now → HasDegree m r) }
+{
+    let image = image_below(alloc, braid, comb, 7)?;
+    Ok(image)
+}
+
+/// The image of a combination of words of at most `limit` letters: its constant term, and for each letter the image of the
+/// derivative with the letter put behind.
+fn image_below(alloc: Global, braid: &Braid, comb: &Comb, limit: usize) -> Result<Comb, AllocError>
+    requires limit { limit ≤ symmetrizer_limit }
+    requires lengths { AllAtMost limit comb.now }
+    requires letters { IsOver braid.now.letters comb.now }
+    requires elements { AllElements braid.now.field comb.now }
+    ensures value { IfOk result (λ r. HasSameValues braid.now.field r (symmetrized braid.now comb.now)) }
+    ensures shape { IfOk result IsOrdered }
+    ensures elements { IfOk result (AllElements braid.now.field) }
+    ensures lengths { IfOk result (AllAtMost limit) }
+    ensures letters { IfOk result (IsOver braid.now.letters) }
+    ensures degree { IfOk result (λ r. (m : ℕ) → HasDegree m comb.now → HasDegree m r) }
+{
+    let field = braid.field();
+    if limit == 0 {
+        let image = comb.copy(alloc)?;
+        return Ok(image);
+    }
+    let mut terms = Vec::new(alloc);
+    let constant = Term {
+        word: Word::empty(),
+        coefficient: comb.coefficient(&Word::empty()),
+    };
+    terms.push(constant)?;
+    for i in 0..braid.letters() {
+        let letter = i + 1;
+        let derivative = derive(alloc, braid, letter, comb)?;
+        if !derivative.is_zero() {
+            let part = image_below(alloc, braid, &derivative, limit - 1)?;
+            put_behind(&part, letter, &mut terms)?;
+        }
+    }
+    let image = Comb::sum_of(alloc, field, terms.as_slice())?;
+    Ok(image)
+}
+
+/// Puts the terms of a combination behind those that are there, each with the letter behind its word.
+fn put_behind(part: &Comb, letter: u8, terms: &mut Vec<Term>) -> Result<(), AllocError>
+    requires letter { IsLetterOf letter_limit letter }
+    requires room { AllByRecursion (λ t. length t.word < word_limit) part.now }
+    ensures { OnOk result (terms.new.items ≡ terms.old.items ++ times_letter part.now letter) }
+{
+    for term in part.terms() {
+        let mut word = term.word;
+        let _room = word.push(letter);
+        terms.push(Term {
+            word,
+            coefficient: term.coefficient,
+        })?;
+    }
+    Ok(())
+}

@@ -1,0 +1,163 @@
+ghost use Rattle.std.specs.Prelude.{IfSome};
+ghost use Rattle.nichols_tensor.specs.Words.{IsWordOver};
+
+use super::*;
+use nichols_braid::{Braid, Scalars};
+use nichols_field::Field;
+use nichols_words::{Comb, Word};
+use std::alloc::{AllocError, Global};
+use std::test::Fail;
+
+/// The word with these letters, where each is a letter of the braid.
+fn word_over(braid: &Braid, letters: &[u8]) -> Option<Word>
+    ensures { IfSome result (IsWordOver braid.now.letters) }
+{
+    let _field = braid.field();
+    let mut word = Word::empty();
+    for &letter in letters {
+        if letter < 1 || letter > braid.letters() || !word.push(letter) {
+            return None;
+        }
+    }
+    Some(word)
+}
+
+fn table(alloc: Global, entries: &[&[i64]]) -> Result<Vec<Vec<i64>>, AllocError> {
+    let mut out = Vec::new(alloc);
+    for row in entries {
+        out.push(row.to_vec(alloc)?)?;
+    }
+    Ok(out)
+}
+
+fn braid(alloc: Global, modulus: i64, rack: &[&[i64]], scalars: &[&[i64]]) -> Result<Braid, Fail> {
+    let field = Field::new(modulus).map_err(|_| "no field")?;
+    let rack = table(alloc, rack)?;
+    let scalars = Scalars::Table(table(alloc, scalars)?);
+    let braid = Braid::new(alloc, field, rack.as_slice(), &scalars).map_err(|_| "no braid")?;
+    Ok(braid)
+}
+
+fn three_transpositions(alloc: Global) -> Result<Braid, Fail> {
+    let minus: &[i64] = &[-1, -1, -1];
+    braid(
+        alloc,
+        101,
+        &[&[1, 3, 2], &[3, 2, 1], &[2, 1, 3]],
+        &[minus, minus, minus],
+    )
+}
+
+/// Whether a combination has these terms, in this order.
+fn has_terms(comb: &Comb, expected: &[(&[u8], u32)]) -> bool {
+    let terms = comb.terms();
+    terms.len() == expected.len()
+        && terms.iter().zip(expected).all(|(term, (letters, coefficient))| {
+            term.word.letters() == *letters && term.coefficient == *coefficient
+        })
+}
+
+/// The image of a word of at most 7 letters.
+fn image(alloc: Global, braid: &Braid, letters: &[u8]) -> Result<Comb, Fail> {
+    let field = braid.field();
+    let word = word_over(braid, letters).ok_or("no word")?;
+    let comb = Comb::single(alloc, field, word, field.from_i64(1))?;
+    if word.len() > 7 {
+        return Ok(comb);
+    }
+    let image = symmetrize(alloc, braid, &comb)?;
+    Ok(image)
+}
+
+#[test]
+fn images_over_the_three_transpositions(rt: HostRuntime) -> Result<(), Fail> {
+    let three = three_transpositions(rt.alloc())?;
+    let rows: [(&[u8], &[(&[u8], u32)]); 3] = [
+        (&[], &[(&[], 1)]),
+        (&[2], &[(&[2], 1)]),
+        (&[1, 2], &[(&[1, 2], 1), (&[3, 1], 100)]),
+    ];
+    for (word, expected) in rows {
+        let found = image(rt.alloc(), &three, word)?;
+        assert!(rt; has_terms(&found, expected));
+    }
+    let zero = symmetrize(rt.alloc(), &three, &Comb::zero(rt.alloc()))?;
+    assert!(rt; zero.is_zero());
+    Ok(())
+}
+
+/// Over one letter with scalar -1 the square goes to zero, and with scalar 2 over 7 elements the cube:
+/// 1 times 3 times 7 is zero there.
+#[test]
+fn images_of_powers(rt: HostRuntime) -> Result<(), Fail> {
+    let minus = braid(rt.alloc(), 7, &[&[1]], &[&[-1]])?;
+    assert!(rt; image(rt.alloc(), &minus, &[1, 1])?.is_zero());
+    let two = braid(rt.alloc(), 7, &[&[1]], &[&[2]])?;
+    assert!(rt; has_terms(&image(rt.alloc(), &two, &[1, 1])?, &[(&[1, 1], 3)]));
+    assert!(rt; image(rt.alloc(), &two, &[1, 1, 1])?.is_zero());
+    Ok(())
+}
+
+#[test]
+fn end_places(rt: HostRuntime) {
+    let refused: [&[u8]; 5] = [&[1, 1], &[0], &[2], &[1, 3], &[1, 2, 3, 4, 5, 6, 7, 8]];
+    for ends in refused {
+        assert!(rt; Perm::new(ends).is_none());
+    }
+    let taken: [&[u8]; 3] = [&[], &[3, 1, 2], &[7, 6, 5, 4, 3, 2, 1]];
+    for ends in taken {
+        assert!(rt; Perm::new(ends).is_some_and(|perm| perm.ends() == ends));
+    }
+}
+
+/// The lift of a word of as many letters as the permutation has places.
+fn lifted(braid: &Braid, ends: &[u8], letters: &[u8]) -> Option<(Word, u32)> {
+    let perm = Perm::new(ends)?;
+    let word = word_over(braid, letters)?;
+    if word.len() != perm.ends().len() {
+        return None;
+    }
+    Some(lift(braid, &perm, &word))
+}
+
+#[test]
+fn lifts_over_the_three_transpositions(rt: HostRuntime) -> Result<(), Fail> {
+    let three = three_transpositions(rt.alloc())?;
+    let rows: [(&[u8], &[u8], u32); 3] = [
+        (&[3, 2, 1], &[1, 3, 1], 100),
+        (&[3, 1, 2], &[3, 2, 1], 1),
+        (&[1, 2, 3], &[1, 2, 3], 1),
+    ];
+    for (ends, word, scalar) in rows {
+        let (found, met) = lifted(&three, ends, &[1, 2, 3]).ok_or("no lift")?;
+        assert!(rt; found.letters() == word && met == scalar);
+    }
+    Ok(())
+}
+
+#[test]
+fn a_crossing(rt: HostRuntime) -> Result<(), Fail> {
+    let three = three_transpositions(rt.alloc())?;
+    let mut word = word_over(&three, &[1, 2, 3]).ok_or("no word")?;
+    if word.len() == 3 {
+        let met = cross_at(&three, &mut word, 2);
+        assert!(rt; word.letters() == [1, 1, 2].as_slice() && met == 100);
+    }
+    Ok(())
+}
+
+/// Both descending lists of the reversal of three places lead to its lift.
+#[test]
+fn both_lists_of_the_reversal(rt: HostRuntime) -> Result<(), Fail> {
+    let three = three_transpositions(rt.alloc())?;
+    let word = word_over(&three, &[1, 2, 3]).ok_or("no word")?;
+    let reversal = Perm::new(&[3, 2, 1]).ok_or("no permutation")?;
+    if word.len() == 3 {
+        let lifted = lift(&three, &reversal, &word);
+        let first = lift_by(&three, &reversal, &[1, 2, 1], &word);
+        let second = lift_by(&three, &reversal, &[2, 1, 2], &word);
+        assert!(rt; first.0 == lifted.0 && first.1 == lifted.1);
+        assert!(rt; second.0 == lifted.0 && second.1 == lifted.1);
+    }
+    Ok(())
+}

@@ -1,0 +1,149 @@
+-- What the loops over words, rows and candidates come to.
+use Rattle.std.proofs.Common.{◌≡◌, ◌≢◌, ℕ, zero, suc, ◌+◌, ◌*◌, ◌^◌, ◌<◌, ◌≤◌, Bool, true, false, cond, List, [], ◌∷◌, ◌++◌, length, map, take, get_or, refl, sym, ◌∙◌, ap, ap₂, subst, arith, add-one}
+use Rattle.std.specs.List.{AllByRecursion, flat_map, filter}
+use Rattle.std.proofs.lemmas.List.{take_more, take_all, append-nil, length-append}
+use Rattle.std.proofs.lemmas.Grind.{flat_map-append}
+use Rattle.std.proofs.Math.Nat.{pow-zero, pow-suc, pow-le-pow_right}
+use Rattle.nichols_field.specs.Field.{FieldValue, IsField, IsElement}
+use Rattle.nichols_field.proofs.Primes.{two_bounds}
+use Rattle.nichols_tensor.specs.Combination.{Term, Combination, HasSameValues, AllElements, words_of, single}
+use Rattle.nichols_tensor.specs.Combination.{AllNonzero as AllTermsNonzero}
+use Rattle.nichols_tensor.specs.WordOrder.{IsRising, IsOrdered}
+use Rattle.nichols_tensor.specs.Words.{up_to, words, IsWordOver, IsOver, HasDegree}
+use Rattle.nichols_tensor.proofs.Tests.{all_of_entries}
+use Rattle.nichols_tensor.proofs.Linear.{same_images}
+use Rattle.nichols_braid.specs.Braid.{BraidValue, IsBraid}
+use Rattle.nichols_braid.specs.Kernel.{Vanishing, is_in_kernel}
+use Rattle.nichols_braid.specs.Least.{basis, candidates, is_least}
+use Rattle.nichols_braid.specs.Rows.{made}
+use Rattle.nichols_braid.specs.Symmetrizer.{symmetrized}
+use Rattle.nichols_braid.proofs.Candidates.{with_letters, candidates_first, candidates_next, from_candidates, candidates_rise}
+use Rattle.nichols_braid.proofs.Reduction.{from_basis}
+use Rattle.nichols_braid.proofs.Rows.{made_rises, made_nonzero}
+use Rattle.nichols_braid.proofs.Rearranged.{up_to_length}
+use Rattle.nichols_words.specs.Word.{word_limit}
+use Rattle.nichols_echelon.specs.Cells.{Cell, entry, AllBelow, IsRow}
+use Rattle.nichols_echelon.specs.Cells.{AllElements as AllCellsElements}
+use Rattle.nichols_lift.specs.Lengths.{symmetrizer_limit}
+use Rattle.nichols_plain.specs.Columns.{HasColumns, number_of, numbered, image_entry}
+use Rattle.nichols_plain.proofs.Functionals.{entry_of_same, image_elements}
+
+pub all_index : {X : Type 0} (P : X → Type 0) (xs : List X) (i : ℕ) (d : X) → AllByRecursion P xs → i < length xs → P (get_or xs i d)
+all_index P [] i d h less = absurd (omega arith)
+all_index P (x ∷ xs) zero d h less = h.0
+all_index P (x ∷ xs) (suc i) d h less = all_index P xs i d h.1 (omega arith)
+
+-- ---- words with letters
+
+pub with_letters_more : (n : ℕ) (ws : List (List ℕ)) (i : ℕ) (w : List ℕ) (out next : List (List ℕ)) → i < length ws → w ≡ get_or ws i w → out ≡ with_letters n (take i ws) → next ≡ out ++ map (λ b. w ++ b ∷ []) (up_to n) → next ≡ with_letters n (take (i + 1) ws)
+with_letters_more n ws i w out next within at before step =
+    step ∙ ap₂ (λ f g. f ++ g) before (sym (append-nil (map (λ b. w ++ b ∷ []) (up_to n))))
+    ∙ sym (flat_map-append (λ u. map (λ b. u ++ b ∷ []) (up_to n)) (take i ws) (w ∷ []))
+    ∙ ap (with_letters n) (ap (λ v. take i ws ++ v ∷ []) at ∙ sym (take_more ws i w within))
+
+-- ---- a combination given by a row
+
+pub made_ordered : (ws : List (List ℕ)) → IsRising ws → (terms : Combination) (items row : List Cell) (i : ℕ) → items ≡ row → length items ≤ i → terms ≡ made ws (take i items) → AllBelow (length ws) row → IsRow row → IsOrdered terms
+made_ordered ws r terms items row i same end is below shape =
+    subst IsOrdered (sym (is ∙ ap (made ws) (take_all i items end ∙ same))) (record { rising = made_rises ws r row below shape.rising; nonzero = made_nonzero ws row shape.nonzero })
+
+-- ---- the row of an image
+
+numbered_elements : (k : FieldValue) (n : ℕ) (f : Combination) → AllElements k f → AllCellsElements k (numbered n f)
+numbered_elements k n [] h = tt
+numbered_elements k n (t ∷ f) h = (h.0, numbered_elements k n f h.1)
+
+pub row_is : (n letters : ℕ) (cells : List Cell) (items image : Combination) (i : ℕ) → items ≡ image → length items ≤ i → cells ≡ numbered n (take i items) → cells ≡ numbered n image
+row_is n letters cells items image i same end is = is ∙ ap (numbered n) (take_all i items end ∙ same)
+
+pub row_elements : (k : FieldValue) (n : ℕ) (row : List Cell) (image : Combination) → row ≡ numbered n image → AllElements k image → AllCellsElements k row
+row_elements k n row image is h = subst (AllCellsElements k) (sym is) (numbered_elements k n image h)
+
+pub row_entries : (braid : BraidValue) → IsBraid braid → (w : List ℕ) (one image : Combination) (row : List Cell) → one ≡ single w → AllElements braid.field image → HasSameValues braid.field image (symmetrized braid one) → row ≡ numbered braid.letters image →
+    (c : ℕ) → entry braid.field row c ≡ image_entry braid c w
+unfolding image_entry
+row_entries braid is w one image row single_is elements same row_is c =
+    ap (λ r. entry braid.field r c) row_is
+    ∙ entry_of_same braid.field is.field braid.letters c image (symmetrized braid (single w)) elements (image_elements braid is.field (single w)) (subst (λ f. HasSameValues braid.field image (symmetrized braid f)) single_is same)
+
+-- ---- candidates
+
+pub candidates_have_columns : (braid : BraidValue) (m : ℕ) (ws : List (List ℕ)) → ws ≡ candidates is_in_kernel braid m → m ≤ symmetrizer_limit → braid.letters ^ m < 2 ^ 32 → AllByRecursion (HasColumns braid) ws
+candidates_have_columns braid m ws is short few =
+    subst (AllByRecursion (HasColumns braid)) (sym is)
+    (all_of_entries (HasColumns braid) (candidates is_in_kernel braid m)
+    (λ w i.
+    let from : (length w ≡ m) × IsWordOver braid.letters w = from_candidates is_in_kernel braid m w i in
+    record { short = subst (λ l. l ≤ symmetrizer_limit) (sym from.0) short; letters = from.1; columns = subst (λ l. braid.letters ^ l < 2 ^ 32) (sym from.0) few }))
+
+with_letters_length : (n : ℕ) (us : List (List ℕ)) → length (with_letters n us) ≡ length us * n
+with_letters_length n [] = let e : ◌≡◌ {A = ℕ} 0 (0 * n) = omega arith in e
+with_letters_length n (u ∷ us) =
+    length-append (map (λ b. u ++ b ∷ []) (up_to n)) (with_letters n us) ∙ ap₂ (λ a b. a + b) (mapped (up_to n) ∙ up_to_length n) (with_letters_length n us) ∙ one (length us)
+  where
+    mapped : (bs : List ℕ) → length (map (λ b. u ++ b ∷ []) bs) ≡ length bs
+    mapped [] = refl
+    mapped (b ∷ bs) = ap suc (mapped bs)
+
+    one : (l : ℕ) → n + l * n ≡ suc l * n
+    one l = omega arith
+
+prefixed_length : (ws : List (List ℕ)) (letters : List ℕ) → length (flat_map (λ a. map (λ w. a ∷ w) ws) letters) ≡ length letters * length ws
+prefixed_length ws [] = let e : ◌≡◌ {A = ℕ} 0 (0 * length ws) = omega arith in e
+prefixed_length ws (a ∷ letters) =
+    length-append (map (λ w. a ∷ w) ws) (flat_map (λ b. map (λ w. b ∷ w) ws) letters) ∙ ap₂ (λ x y. x + y) (mapped ws) (prefixed_length ws letters) ∙ one (length letters) (length ws)
+  where
+    mapped : (vs : List (List ℕ)) → length (map (λ w. a ∷ w) vs) ≡ length vs
+    mapped [] = refl
+    mapped (v ∷ vs) = ap suc (mapped vs)
+
+    one : (l m : ℕ) → m + l * m ≡ suc l * m
+    one l m = omega arith
+
+words_length : (n m : ℕ) → length (words n m) ≡ n ^ m
+unfolding words
+words_length n zero = sym (pow-zero n)
+words_length n (suc m) = prefixed_length (words n m) (up_to n) ∙ ap₂ (λ a b. a * b) (up_to_length n) (words_length n m) ∙ (let c : n * n ^ m ≡ n ^ m * n = omega arith in c) ∙ sym (pow-suc n m)
+
+filter_shorter : (t : List ℕ → Bool) (ws : List (List ℕ)) → length (filter t ws) ≤ length ws
+filter_shorter t [] = omega arith
+filter_shorter t (w ∷ ws) = at (t w) (filter_shorter t ws)
+  where
+    at : (b : Bool) → length (filter t ws) ≤ length ws → length (cond b (w ∷ filter t ws) (filter t ws)) ≤ length (w ∷ ws)
+    at true h = omega arith
+    at false h = omega arith
+
+basis_few : (braid : BraidValue) (m : ℕ) → length (basis is_in_kernel braid m) ≤ braid.letters ^ m
+unfolding basis
+basis_few braid m = subst (λ l. length (basis is_in_kernel braid m) ≤ l) (words_length braid.letters m) (filter_shorter (is_least is_in_kernel braid) (words braid.letters m))
+
+candidates_few : (braid : BraidValue) (m : ℕ) → length (candidates is_in_kernel braid m) ≤ braid.letters ^ m
+candidates_few braid zero = subst (λ l. length (candidates is_in_kernel braid 0) ≤ l) (sym (pow-zero braid.letters)) (subst (λ l. l ≤ 1) (sym (ap length (candidates_first is_in_kernel braid))) (omega arith))
+candidates_few braid (suc m) =
+    let count : length (candidates is_in_kernel braid (suc m)) ≡ length (basis is_in_kernel braid m) * braid.letters = ap length (candidates_next is_in_kernel braid m) ∙ with_letters_length braid.letters (basis is_in_kernel braid m) in
+    let bound : length (basis is_in_kernel braid m) * braid.letters ≤ braid.letters ^ m * braid.letters = two_bounds (length (basis is_in_kernel braid m)) braid.letters (braid.letters ^ m) braid.letters (basis_few braid m) (omega arith) in
+    let power : braid.letters ^ suc m ≡ braid.letters ^ m * braid.letters = pow-suc braid.letters m in
+    omega (arith, count, bound, power)
+
+pub few_rows : (braid : BraidValue) (m : ℕ) (ws : List (List ℕ)) (rows : List (List Cell)) → ws ≡ candidates is_in_kernel braid m → braid.letters ^ m < 2 ^ 32 → length rows ≡ length ws → length rows < 2 ^ 32
+few_rows braid m ws rows is few count =
+    let size : length rows ≡ length (candidates is_in_kernel braid m) = count ∙ ap length is in
+    let bound : length (candidates is_in_kernel braid m) ≤ braid.letters ^ m = candidates_few braid m in
+    omega arith
+
+pub next_columns : (n before m : ℕ) → 1 ≤ n → before < m → n ^ m < 2 ^ 32 → n ^ (before + 1) < 2 ^ 32
+next_columns n before m some less few =
+    let power : n ^ (before + 1) ≤ n ^ m = pow-le-pow_right (let above : 0 < n = omega arith in above) (let next : before + 1 ≤ m = omega arith in next) in
+    omega arith
+
+pub basis_has_room : (braid : BraidValue) (m : ℕ) (us : List (List ℕ)) → us ≡ basis is_in_kernel braid m → m ≤ symmetrizer_limit → AllByRecursion (λ w. length w < word_limit) us
+basis_has_room braid m us is short =
+    subst (AllByRecursion (λ w. length w < word_limit)) (sym is)
+    (all_of_entries (λ w. length w < word_limit) (basis is_in_kernel braid m) (λ w i. let size : length w ≡ m = (from_basis is_in_kernel braid m w i).0 in omega arith))
+
+pub next_candidates : (braid : BraidValue) (n before : ℕ) (us ws : List (List ℕ)) → n ≡ braid.letters → us ≡ basis is_in_kernel braid before → ws ≡ with_letters n us → ws ≡ candidates is_in_kernel braid (before + 1)
+next_candidates braid n before us ws letters is words =
+    words ∙ ap₂ with_letters letters is ∙ sym (candidates_next is_in_kernel braid before) ∙ ap (candidates is_in_kernel braid) (sym (add-one before))
+
+pub candidates_are_rising : (braid : BraidValue) (m : ℕ) (ws : List (List ℕ)) → ws ≡ candidates is_in_kernel braid m → IsRising ws
+candidates_are_rising braid m ws is = subst IsRising (sym is) (candidates_rise is_in_kernel braid m)
