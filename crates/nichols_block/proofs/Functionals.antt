@@ -26,7 +26,7 @@ use Rattle.nichols_braid.specs.LinearTest.{IsLinearTest}
 use Rattle.nichols_braid.specs.LeastLaws.{IsNormalForm}
 use Rattle.nichols_braid.proofs.BraidLaws.{killed_is_linear}
 use Rattle.nichols_braid.proofs.Killed.{is_killed_sound, is_killed_complete}
-use Rattle.nichols_braid.proofs.Maps.{same_weight_on, weight-plus, extended_same}
+use Rattle.nichols_braid.proofs.Maps.{same_weight_on, weight-plus, extended_same, everywhere}
 use Rattle.nichols_braid.proofs.Lists.{all_from_in}
 use Rattle.nichols_braid.proofs.Congruences.{AreCongruent, congruent_sym, congruent_left, passes_too, zero_passes}
 use Rattle.nichols_braid.proofs.Independence.{basis_is_independent}
@@ -34,6 +34,7 @@ use Rattle.nichols_braid.proofs.Candidates.{from_candidates}
 use Rattle.nichols_braid.proofs.Rows.{AreFunctionals}
 use Rattle.nichols_echelon.specs.Cells.{entry}
 use Rattle.nichols_echelon.proofs.Entries.{entry-nil, entry-append, entry_is_element}
+use Rattle.nichols_block.proofs.Lists.{all_mapped}
 use Rattle.nichols_block.specs.Rule.{derived_form, derived_forms}
 use Rattle.nichols_block.specs.Rows.{place_in, form_cells, row_cells}
 use Rattle.nichols_block.proofs.Derived.{congruent_extended, among-extended}
@@ -56,10 +57,6 @@ weight-extended k is ψ image (t ∷ f) =
 elements-extended : (k : FieldValue) → IsField k → (image : List ℕ → Combination) (f : Combination) → AllElements k (extended k image f)
 elements-extended k is image [] = tt
 elements-extended k is image (t ∷ f) = elements-append k (scaled k t.coefficient (image t.word)) (extended k image f) (elements-scaled k is t.coefficient (image t.word)) (elements-extended k is image f)
-
-everywhere_on : {X : Type 0} (P : X → Type 0) (xs : List X) → ((x : X) → P x) → AllByRecursion P xs
-everywhere_on P [] h = tt
-everywhere_on P (x ∷ xs) h = (h x, everywhere_on P xs h)
 
 -- ---- one form
 
@@ -113,7 +110,7 @@ total_before : (k : FieldValue) → IsField k → (ws : List (List ℕ)) (offset
 unfolding total
 total_before k is ws offset [] column less = refl
 total_before k is ws offset (f ∷ forms) column less =
-    ap₂ (plus k) (weight_none k is (mark ws offset column) f (everywhere_on (λ t. mark ws offset column t.word ≡ 0) f (λ t. mark_before ws offset column t.word less))) (total_before k is ws (offset + length ws) forms column (omega arith))
+    ap₂ (plus k) (weight_none k is (mark ws offset column) f (everywhere (λ t. mark ws offset column t.word ≡ 0) f (λ t. mark_before ws offset column t.word less))) (total_before k is ws (offset + length ws) forms column (omega arith))
     ∙ plus_zero k 0 (zero_is_element k is)
 
 -- the total of forms that are zero is 0
@@ -157,7 +154,7 @@ zeros_of_total k is ws offset (f ∷ forms) h none = (first, zeros_of_total k is
 sum_of_rows : (k : FieldValue) → IsField k → (ws : List (List ℕ)) (offset column : ℕ) (form : List ℕ → ℕ → Combination) (letters : List ℕ) (f : Combination) → AllByRecursion (λ t. AllByRecursion (λ a. AllElements k (form t.word a)) letters) f →
     weight k (λ w. entry k (row_cells ws offset (map (form w) letters)) column) f ≡ total k ws offset (map (λ a. extended k (λ w. form w a) f) letters) column
 unfolding total
-sum_of_rows k is ws offset column form [] f e = weight_none k is (λ w. entry k [] column) f (everywhere_on (λ t. entry k [] column ≡ 0) f (λ t. entry-nil k column))
+sum_of_rows k is ws offset column form [] f e = weight_none k is (λ w. entry k [] column) f (everywhere (λ t. entry k [] column ≡ 0) f (λ t. entry-nil k column))
 sum_of_rows k is ws offset column form (a ∷ letters) f e =
     same_weight_on k (λ w. entry k (row_cells ws offset (map (form w) (a ∷ letters))) column) (λ w. plus k (weight k (mark ws offset column) (form w a)) (entry k (row_cells ws (offset + length ws) (map (form w) letters)) column)) f (each f e)
     ∙ weight-plus k is (λ w. weight k (mark ws offset column) (form w a)) (λ w. entry k (row_cells ws (offset + length ws) (map (form w) letters)) column) f
@@ -208,14 +205,7 @@ summed_form braid is m a letter f among = (
     all_congruent (t ∷ f) h = ((normal t.word h.0).congruent, all_congruent f h.1)
 
 all_by_letter : (P : Combination → Type 0) (form : ℕ → Combination) (n : ℕ) → ((a : ℕ) → (1 ≤ a) × (a ≤ n) → P (form a)) → AllByRecursion P (map form (up_to n))
-all_by_letter P form n h = each (up_to n) (λ a i. h a (from_up_to n a i))
-  where
-    each : (xs : List ℕ) → ((a : ℕ) → IsIn a xs → P (form a)) → AllByRecursion P (map form xs)
-    each xs k = mapped xs (all_from_in (λ a. P (form a)) xs k)
-      where
-        mapped : (ys : List ℕ) → AllByRecursion (λ a. P (form a)) ys → AllByRecursion P (map form ys)
-        mapped [] g = tt
-        mapped (y ∷ ys) g = (g.0, mapped ys g.1)
+all_by_letter P form n h = all_mapped P form (up_to n) (λ a i. h a (from_up_to n a i))
 
 pub rows_tell : (braid : BraidValue) → IsBraid braid → (m : ℕ) → AreFunctionals braid.field (is_killed braid (suc m)) (candidates is_killed braid (suc m)) (row_number braid m)
 unfolding derived_forms AllAmong

@@ -1,61 +1,20 @@
 -- Degree 0, and the rules from there on.
-use Rattle.std.proofs.Common.{◌≡◌, ℕ, zero, suc, ◌+◌, ◌-◌, ◌<◌, ◌≤◌, ◌↔◌, Bool, true, not, cond, IsTrue, List, [], ◌∷◌, ◌++◌, length, map, get_or, refl, sym, ◌∙◌, ap, ap₂, subst, arith, length-append, inl, inr, nat_eq}
+use Rattle.std.proofs.Common.{◌≡◌, ℕ, zero, suc, ◌+◌, ◌-◌, ◌<◌, ◌≤◌, ◌↔◌, Bool, true, IsTrue, List, [], ◌∷◌, ◌++◌, length, map, get_or, refl, sym, ◌∙◌, ap, ap₂, subst, arith, length-append, inl, inr, nat_eq}
 use Rattle.std.proofs.lemmas.Bool.{cases_lt}
 use Rattle.std.proofs.lemmas.Bool.Decides.{Decides-eqb}
 use Rattle.std.proofs.Math.ListN.{get_or-append}
 use Rattle.std.proofs.Math.Seq.{get_or-append_seam}
-use Rattle.std.specs.declared.cmp.Ordering.TheVariants.{Less, Equal}
-use Rattle.nichols_field.specs.Field.{FieldValue}
-use Rattle.nichols_field.proofs.FieldLaws.{plus_zero, one_is_element}
-use Rattle.nichols_tensor.specs.Combination.{Combination, AllAmong, single}
-use Rattle.nichols_tensor.specs.Words.{up_to, IsWordOver, words, words_before}
-use Rattle.nichols_tensor.specs.WordOrder.{word_cmp}
-use Rattle.nichols_tensor.proofs.Values.{is_zero_sound}
-use Rattle.nichols_tensor.proofs.Order.{word_cmp_itself}
-use Rattle.nichols_tensor.proofs.AllWords.{from_words_before}
+use Rattle.nichols_tensor.specs.Combination.{Combination}
+use Rattle.nichols_tensor.specs.Words.{up_to}
 use Rattle.nichols_braid.specs.Braid.{BraidValue, IsBraid}
 use Rattle.nichols_braid.specs.Kernel.{is_killed}
-use Rattle.nichols_braid.specs.Least.{PlainRelation, is_least, basis, relations}
-use Rattle.nichols_braid.proofs.BraidLaws.{killed_is_linear}
-use Rattle.nichols_braid.proofs.Congruences.{AreCongruent, zero_congruent}
-use Rattle.nichols_braid.proofs.LeastWords.{least_unless}
-use Rattle.nichols_braid.proofs.Candidates.{candidates_first, relations_are, relation_at, relations_of}
+use Rattle.nichols_braid.specs.Least.{PlainRelation, basis, relations}
+use Rattle.nichols_braid.proofs.FirstDegree.{basis_first, relations_first}
 use Rattle.nichols_block.specs.Rule.{PlainRule, derived_form, derived_forms, rule_of, IsRuleOf}
 use Rattle.nichols_block.specs.Levels.{LevelsValue, rules_below, AreLevels}
 use Rattle.nichols_block.proofs.RuleOf.{rule_with, same_rule}
 
 -- ---- degree 0
-
-nothing_before : (n : ℕ) (f : Combination) → AllAmong f (words_before n []) → f ≡ []
-unfolding AllAmong
-nothing_before n [] h = refl
-nothing_before n (t ∷ f) h =
-    let from : (length t.word ≡ 0) × IsWordOver n t.word × (word_cmp t.word [] ≡ Less) = from_words_before n t.word [] h.0 in
-    absurd (at t.word from.0 from.2)
-  where
-    at : (v : List ℕ) → length v ≡ 0 → word_cmp v [] ≡ Less → ⊥
-    at [] e less = let c : Equal ≡ Less = sym (word_cmp_itself []) ∙ less in cc
-    at (a ∷ v) e less = omega arith
-
--- the empty word is least
-empty_is_least : (braid : BraidValue) → IsBraid braid → is_least is_killed braid [] ≡ true
-unfolding is_killed
-empty_is_least braid is =
-    least_unless is_killed braid []
-    (λ f among elements h.
-    let k : FieldValue = braid.field in
-    let passes : is_killed braid 0 (single []) ≡ true = zero_congruent k is.field (is_killed braid 0) (killed_is_linear braid is 0) (single []) (subst (AreCongruent k (is_killed braid 0) (single [])) (nothing_before braid.letters f among) h) in
-    let none : ◌≡◌ {A = ℕ} 1 0 = sym (plus_zero k 1 (one_is_element k is.field)) ∙ is_zero_sound k is.field (single []) passes [] in
-    cc)
-
-basis_first : (braid : BraidValue) → IsBraid braid → basis is_killed braid 0 ≡ [] ∷ []
-unfolding basis words
-basis_first braid is = ap (λ b. cond b ([] ∷ []) []) (empty_is_least braid is)
-
-relations_first : (braid : BraidValue) → IsBraid braid → relations is_killed braid 0 ≡ []
-relations_first braid is =
-    relations_are is_killed braid 0 ∙ ap (relations_of is_killed braid 0) (candidates_first is_killed braid)
-    ∙ ap (λ b. map (relation_at is_killed braid 0) (cond (not b) ([] ∷ []) [])) (empty_is_least braid is)
 
 abbrev nothing : ℕ → Combination
 nothing a = []
@@ -70,8 +29,8 @@ pub lowest_is_rule : (braid : BraidValue) → IsBraid braid → (us : List (List
 unfolding rule_of derived_forms rule_with
 lowest_is_rule braid is us ds own ts n u d o letters t =
     let forms : own ≡ map (derived_form braid 0 []) (up_to braid.letters) = o ∙ ap (λ l. map nothing (up_to l)) letters ∙ sym (derived_nothing braid [] (up_to braid.letters)) in
-    same_rule 0 0 us (basis is_killed braid 0) ds (map (derived_forms braid 0) (basis is_killed braid 0)) ts (relations is_killed braid 0) refl (u ∙ sym (basis_first braid is))
-    (d ∙ ap (λ fs. fs ∷ []) forms ∙ ap (map (derived_forms braid 0)) (sym (basis_first braid is))) (t ∙ sym (relations_first braid is))
+    same_rule 0 0 us (basis is_killed braid 0) ds (map (derived_forms braid 0) (basis is_killed braid 0)) ts (relations is_killed braid 0) refl (u ∙ sym (basis_first braid is.field))
+    (d ∙ ap (λ fs. fs ∷ []) forms ∙ ap (map (derived_forms braid 0)) (sym (basis_first braid is.field))) (t ∙ sym (relations_first braid is.field))
 
 -- ---- the rules in turn
 

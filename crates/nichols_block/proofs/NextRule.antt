@@ -25,6 +25,8 @@ use Rattle.nichols_echelon.specs.Combination.{AllRowsElements, row_at}
 use Rattle.nichols_echelon.specs.Split.{IsSplit}
 use Rattle.nichols_echelon.specs.declared.rows.Place.{Place}
 use Rattle.nichols_echelon.proofs.Shapes.{all_append}
+use Rattle.std.proofs.lemmas.Simd.{map-map}
+use Rattle.nichols_block.proofs.Lists.{all_mapped}
 use Rattle.nichols_block.specs.Rule.{derived_form, derived_forms, rule_of, IsRuleOf}
 use Rattle.nichols_block.specs.Rows.{form_cells, row_cells, IsFormOver}
 use Rattle.nichols_block.specs.Reading.{independent_in, dependent_in, IsInside}
@@ -55,27 +57,13 @@ with_letters_length n (u ∷ us) =
 
 forms_over : (braid : BraidValue) → IsBraid braid → (m : ℕ) (w : List ℕ) → IsIn w (candidates is_killed braid (suc m)) → AllByRecursion (IsFormOver (basis is_killed braid m)) (derived_forms braid (suc m) w)
 unfolding derived_forms
-forms_over braid is m w i = each (up_to braid.letters) (λ a j. from_up_to braid.letters a j)
+forms_over braid is m w i = all_mapped (IsFormOver (basis is_killed braid m)) (derived_form braid (suc m) w) (up_to braid.letters) (λ a j. one a (from_up_to braid.letters a j))
   where
     own : (length w ≡ suc m) × IsWordOver braid.letters w
     own = from_candidates is_killed braid (suc m) w i
 
     one : (a : ℕ) → IsLetter braid a → IsFormOver (basis is_killed braid m) (derived_form braid (suc m) w a)
     one a letter = let n : IsNormalForm is_killed braid m _ (derived_form braid (suc m) w a) = derived_form_is_normal braid is m w a own.0 own.1 letter in record { among = n.least; ordered = n.ordered }
-
-    mapped : (bs : List ℕ) → AllByRecursion (λ a. IsLetter braid a) bs → AllByRecursion (IsFormOver (basis is_killed braid m)) (map (derived_form braid (suc m) w) bs)
-    mapped [] h = tt
-    mapped (a ∷ bs) h = (one a h.0, mapped bs h.1)
-
-    each : (bs : List ℕ) → ((a : ℕ) → IsIn a bs → IsLetter braid a) → AllByRecursion (IsFormOver (basis is_killed braid m)) (map (derived_form braid (suc m) w) bs)
-    each bs h = mapped bs (all_from_in (λ a. IsLetter braid a) bs h)
-
-all_mapped : {X Y : Type 0} (P : Y → Type 0) (f : X → Y) (xs : List X) → ((x : X) → IsIn x xs → P (f x)) → AllByRecursion P (map f xs)
-all_mapped P f xs h = go xs (all_from_in (λ x. P (f x)) xs h)
-  where
-    go : (ys : List _) → AllByRecursion (λ y. P (f y)) ys → AllByRecursion P (map f ys)
-    go [] g = tt
-    go (y ∷ ys) g = (g.0, go ys g.1)
 
 pub all_forms_over : (braid : BraidValue) → IsBraid braid → (m : ℕ) (us : List (List ℕ)) (derivs : List (List Combination)) → us ≡ basis is_killed braid m → derivs ≡ map (derived_forms braid (suc m)) (candidates is_killed braid (suc m)) →
     AllByRecursion (λ forms. AllByRecursion (IsFormOver us) forms) derivs
@@ -118,14 +106,10 @@ forms_elements braid is m w i =
 abbrev pub AreRowsOf : BraidValue → ℕ → List (List Cell) → Type 0
 AreRowsOf braid m rows = rows ≡ map (λ w. row_cells (basis is_killed braid m) 0 (derived_forms braid (suc m) w)) (candidates is_killed braid (suc m))
 
-map_twice : {X Y Z : Type 0} (g : Y → Z) (f : X → Y) (xs : List X) → map g (map f xs) ≡ map (λ x. g (f x)) xs
-map_twice g f [] = refl
-map_twice g f (x ∷ xs) = ap (λ zs. g (f x) ∷ zs) (map_twice g f xs)
-
 pub rows_are : (braid : BraidValue) (m : ℕ) (us : List (List ℕ)) (derivs : List (List Combination)) (rows : List (List Cell)) → us ≡ basis is_killed braid m → derivs ≡ map (derived_forms braid (suc m)) (candidates is_killed braid (suc m)) →
     rows ≡ map (row_cells us 0) derivs → AreRowsOf braid m rows
 rows_are braid m us derivs rows e d h =
-    h ∙ ap₂ (λ vs ds. map (row_cells vs 0) ds) e d ∙ map_twice (row_cells (basis is_killed braid m) 0) (derived_forms braid (suc m)) (candidates is_killed braid (suc m))
+    h ∙ ap₂ (λ vs ds. map (row_cells vs 0) ds) e d ∙ map-map (row_cells (basis is_killed braid m) 0) (derived_forms braid (suc m)) (candidates is_killed braid (suc m))
 
 pub rows_have_elements : (braid : BraidValue) → IsBraid braid → (m : ℕ) (rows : List (List Cell)) → AreRowsOf braid m rows → AllRowsElements braid.field rows
 rows_have_elements braid is m rows h =

@@ -11,6 +11,7 @@ use Rattle.nichols_braid.proofs.Rows.{made_rises, made_nonzero}
 use Rattle.nichols_echelon.specs.Cells.{Cell, IsRow, IsRising as AreColumnsRising, columns_of, AllBelow}
 use Rattle.nichols_echelon.specs.declared.rows.Place.{Place}
 use Rattle.nichols_echelon.specs.declared.rows.Place.TheVariants.{Independent, Depends}
+use Rattle.nichols_block.proofs.Lists.{length_front}
 use Rattle.nichols_block.specs.Reading.{independent_in, dependent_in, IsInside}
 
 -- ---- combinations at positions
@@ -37,11 +38,6 @@ independent_in-push [] x (q ∷ ps) p e = absurd (omega arith)
 independent_in-push (y ∷ xs) x [] p e = absurd (omega arith)
 independent_in-push (y ∷ xs) x (Independent ∷ ps) p e = ap (λ zs. y ∷ zs) (independent_in-push xs x ps p (omega arith))
 independent_in-push (y ∷ xs) x (Depends cells ∷ ps) p e = independent_in-push xs x ps p (omega arith)
-
-length_front : {X : Type 0} (xs : List X) (k : ℕ) → k ≤ length xs → length (take k xs) ≡ k
-length_front xs zero less = refl
-length_front [] (suc k) less = absurd (omega arith)
-length_front (x ∷ xs) (suc k) less = ap suc (length_front xs k (omega arith))
 
 independent_more : {X : Type 0} (xs : List X) (ps : List Place) (k : ℕ) (x : X) (p : Place) → length ps ≡ length xs → k < length xs →
     independent_in (take (k + 1) xs) (take (k + 1) ps) ≡ independent_in (take k xs) (take k ps) ++ independent_in (get_or xs k x ∷ []) (get_or ps k p ∷ [])

@@ -5,7 +5,7 @@ use Rattle.std.specs.List.Sorted.{IsBinarySearchResult, IsSearchInRange}
 use Rattle.std.specs.Cmp.Lexicographic.{same_text, other_text}
 use Rattle.std.specs.declared.cmp.Ordering.TheVariants.{Less}
 use Rattle.std.proofs.lemmas.Bool.{cases_lt}
-use Rattle.std.proofs.lemmas.List.{take_more, map-append, append-nil}
+use Rattle.std.proofs.lemmas.List.{map-id, take_more, map-append, append-nil}
 use Rattle.nichols_tensor.specs.Members.{IsIn}
 use Rattle.nichols_tensor.specs.Combination.{Term, Combination, AllAmong, AllNonzero, words_of, same_letters}
 use Rattle.nichols_tensor.specs.Positions.{word_at}
@@ -16,6 +16,7 @@ use Rattle.nichols_tensor.proofs.Rising.{words_at_rise, position_below}
 use Rattle.nichols_echelon.specs.Cells.{Cell, IsRow, IsBelowFirst, columns_of, AllBelow}
 use Rattle.nichols_echelon.specs.Cells.{IsRising as AreRising, AllNonzero as AllCellsNonzero}
 use Rattle.nichols_echelon.proofs.Shapes.{all_append}
+use Rattle.nichols_block.proofs.Lists.{length_front}
 use Rattle.nichols_block.specs.Rows.{place_in, form_cells, row_cells, IsFormOver}
 use Rattle.nichols_block.proofs.Searching.{search_says}
 
@@ -48,19 +49,11 @@ one_place ws rising i j within_i within_j same =
 pub place_found : (ws : List (List ℕ)) → IsRising ws → (w : List ℕ) → IsIn w ws → (i : ℕ) → IsSearchInRange (Ok i) (length ws) → IsBinarySearchResult (λ (v : List ℕ). word_cmp v w) ws (Ok i) → i ≡ place_in ws w
 place_found ws rising w there i within found =
     let r : (place_in ws w < length ws) × (word_at ws (place_in ws w) ≡ w) = place_within ws w there in
-    one_place ws rising i (place_in ws w) within r.0 (search_says (λ (v : List ℕ). v) ws w (Ok i) (subst IsRising (sym (map_same ws)) rising) within found [] ∙ sym r.1)
-  where
-    map_same : (vs : List (List ℕ)) → map (λ (v : List ℕ). v) vs ≡ vs
-    map_same [] = refl
-    map_same (v ∷ vs) = ap (λ us. v ∷ us) (map_same vs)
+    one_place ws rising i (place_in ws w) within r.0 (search_says (λ (v : List ℕ). v) ws w (Ok i) (subst IsRising (sym (map-id ws)) rising) within found [] ∙ sym r.1)
 
 pub place_there : (ws : List (List ℕ)) → IsRising ws → (w : List ℕ) → IsIn w ws → (i : ℕ) → IsSearchInRange (Err i) (length ws) → IsBinarySearchResult (λ (v : List ℕ). word_cmp v w) ws (Err i) → ⊥
 place_there ws rising w there i within found =
-    search_says (λ (v : List ℕ). v) ws w (Err i) (subst IsRising (sym (map_same ws)) rising) within found [] (subst (IsIn w) (sym (map_same ws)) there)
-  where
-    map_same : (vs : List (List ℕ)) → map (λ (v : List ℕ). v) vs ≡ vs
-    map_same [] = refl
-    map_same (v ∷ vs) = ap (λ us. v ∷ us) (map_same vs)
+    search_says (λ (v : List ℕ). v) ws w (Err i) (subst IsRising (sym (map-id ws)) rising) within found [] (subst (IsIn w) (sym (map-id ws)) there)
 
 pub places_rise : (ws : List (List ℕ)) → IsRising ws → (v w : List ℕ) → IsIn v ws → IsIn w ws → word_cmp v w ≡ Less → place_in ws v < place_in ws w
 places_rise ws rising v w i j less =
@@ -156,16 +149,11 @@ row_cells-push ws offset (g ∷ forms) f =
     ap (λ xs. form_cells ws offset g ++ xs) (row_cells-push ws (offset + length ws) forms f ∙ ap (λ n. row_cells ws (offset + length ws) forms ++ form_cells ws n f) e)
     ∙ sym (append_assoc (form_cells ws offset g) (row_cells ws (offset + length ws) forms) (form_cells ws (offset + suc (length forms) * length ws) f))
 
-length_front : {X : Type 0} (xs : List X) (k : ℕ) → k < length xs → length (take k xs) ≡ k
-length_front [] k less = absurd (omega arith)
-length_front (x ∷ xs) zero less = refl
-length_front (x ∷ xs) (suc k) less = ap suc (length_front xs k (omega arith))
-
 -- one more form
 pub row_cells-more : (ws : List (List ℕ)) (forms : List Combination) (k offset : ℕ) (f g : Combination) (out more : List Cell) → k < length forms → f ≡ get_or forms k f → g ≡ f → offset ≡ k * length ws →
     out ≡ row_cells ws 0 (take k forms) → more ≡ out ++ form_cells ws offset g → more ≡ row_cells ws 0 (take (k + 1) forms)
 row_cells-more ws forms k offset f g out more less at view offset_is before pushed =
-    let e : offset ≡ 0 + length (take k forms) * length ws = offset_is ∙ ap (λ n. n * length ws) (sym (length_front forms k less)) ∙ (let z : length (take k forms) * length ws ≡ 0 + length (take k forms) * length ws = omega arith in z) in
+    let e : offset ≡ 0 + length (take k forms) * length ws = offset_is ∙ ap (λ n. n * length ws) (sym (length_front forms k (omega arith))) ∙ (let z : length (take k forms) * length ws ≡ 0 + length (take k forms) * length ws = omega arith in z) in
     pushed ∙ ap₂ (λ xs h. xs ++ form_cells ws offset h) before view ∙ ap (λ n. row_cells ws 0 (take k forms) ++ form_cells ws n f) e
     ∙ sym (ap (row_cells ws 0) (take_more forms k f less ∙ ap (λ h. take k forms ++ h ∷ []) (sym at)) ∙ row_cells-push ws 0 (take k forms) f)
 

@@ -12,7 +12,7 @@ use nichols_braid::Braid;
 use nichols_echelon::split_rows;
 use std::alloc::{AllocError, Global};
 
-/// The rule of the degree after that of `lower`, which is at most 59.
+/// The rule of the next degree, where `lower` is the rule of a degree from 0 to 59.
 ///
 /// A candidate of the next degree is a least word with a letter behind. Its row has the coefficients of the normal forms of its
 /// skew derivatives. It is least exactly where its row is no combination of the rows before it, and otherwise that combination
