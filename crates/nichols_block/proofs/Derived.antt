@@ -15,7 +15,8 @@ use Rattle.nichols_tensor.proofs.Over.{all_at, all_of_words}
 use Rattle.nichols_braid.specs.Braid.{BraidValue, IsBraid, IsLetter, act, scalar}
 use Rattle.nichols_braid.specs.Derivation.{derived_word, derived}
 use Rattle.nichols_braid.specs.Kernel.{is_killed}
-use Rattle.nichols_braid.specs.Least.{PlainRelation, is_least, basis, normal_form, candidates, relations}
+use Rattle.nichols_braid.specs.Least.{is_least, basis, normal_form, candidates, relations}
+use Rattle.nichols_tensor.specs.Relation.{PlainRelation}
 use Rattle.nichols_braid.specs.LeastLaws.{IsNormalForm}
 use Rattle.nichols_braid.specs.LinearTest.{IsLinearTest}
 use Rattle.nichols_braid.specs.RightProduct.{times_letter}

@@ -16,7 +16,7 @@ use Rattle.nichols_tensor.specs.WordOrder.{word_cmp, IsRising}
 use Rattle.nichols_tensor.proofs.Ordered.{before_all}
 use Rattle.nichols_tensor.proofs.Values.{same_itself, value_at-append, value_at-scaled}
 use Rattle.nichols_braid.specs.Braid.{BraidValue, act, scalar}
-use Rattle.nichols_braid.specs.Least.{PlainRelation}
+use Rattle.nichols_tensor.specs.Relation.{PlainRelation}
 use Rattle.nichols_block.specs.Forms.{candidates_of, form_in, followed_form, derived_from}
 use Rattle.nichols_block.proofs.Searching.{search_says}
 

@@ -8,7 +8,8 @@ use Rattle.nichols_tensor.specs.Combination.{Combination}
 use Rattle.nichols_tensor.specs.Words.{up_to}
 use Rattle.nichols_braid.specs.Braid.{BraidValue, IsBraid}
 use Rattle.nichols_braid.specs.Kernel.{is_killed}
-use Rattle.nichols_braid.specs.Least.{PlainRelation, basis, relations}
+use Rattle.nichols_braid.specs.Least.{basis, relations}
+use Rattle.nichols_tensor.specs.Relation.{PlainRelation}
 use Rattle.nichols_braid.proofs.FirstDegree.{basis_first, relations_first}
 use Rattle.nichols_block.specs.Rule.{PlainRule, derived_form, derived_forms, rule_of, IsRuleOf}
 use Rattle.nichols_block.specs.Levels.{LevelsValue, rules_below, AreLevels}

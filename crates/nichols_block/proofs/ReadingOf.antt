@@ -4,7 +4,7 @@ use Rattle.std.specs.List.{AllByRecursion}
 use Rattle.std.proofs.lemmas.List.{take_more, take_all, append-nil, get_or_read, reverse-append}
 use Rattle.nichols_tensor.specs.WordOrder.{IsRising, IsOrdered}
 use Rattle.nichols_tensor.specs.Positions.{word_at}
-use Rattle.nichols_braid.specs.Least.{PlainRelation}
+use Rattle.nichols_tensor.specs.Relation.{PlainRelation}
 use Rattle.nichols_braid.specs.Rows.{made, AreRising}
 use Rattle.nichols_braid.specs.Rows.{columns_of as positions_of}
 use Rattle.nichols_braid.proofs.Rows.{made_rises, made_nonzero}

@@ -13,7 +13,8 @@ use Rattle.nichols_tensor.proofs.Entries.{from_filter}
 use Rattle.nichols_braid.specs.Braid.{BraidValue, IsBraid, IsLetter}
 use Rattle.nichols_braid.specs.Derivation.{derived}
 use Rattle.nichols_braid.specs.Kernel.{is_killed}
-use Rattle.nichols_braid.specs.Least.{PlainRelation, is_least, basis, candidates, relations}
+use Rattle.nichols_braid.specs.Least.{is_least, basis, candidates, relations}
+use Rattle.nichols_tensor.specs.Relation.{PlainRelation}
 use Rattle.nichols_braid.specs.LeastLaws.{IsNormalForm}
 use Rattle.nichols_braid.proofs.BraidLaws.{killed_is_linear}
 use Rattle.nichols_braid.proofs.Rearranged.{up_to_length}

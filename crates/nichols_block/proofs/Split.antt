@@ -7,7 +7,8 @@ use Rattle.nichols_tensor.specs.Positions.{word_at}
 use Rattle.nichols_tensor.proofs.Values.{weight}
 use Rattle.nichols_braid.specs.Braid.{BraidValue}
 use Rattle.nichols_braid.specs.Kernel.{Vanishing}
-use Rattle.nichols_braid.specs.Least.{PlainRelation, is_least, normal_form}
+use Rattle.nichols_braid.specs.Least.{is_least, normal_form}
+use Rattle.nichols_tensor.specs.Relation.{PlainRelation}
 use Rattle.nichols_braid.specs.LinearTest.{IsLinearTest}
 use Rattle.nichols_braid.specs.Rows.{made, combined_numbers}
 use Rattle.nichols_braid.proofs.Candidates.{least_of, relation_at, relations_of}

@@ -5,7 +5,7 @@ use Rattle.nichols_field.specs.Field.{FieldValue}
 use Rattle.nichols_tensor.specs.Combination.{Combination, AllElements, same_letters, single, scaled, extended}
 use Rattle.nichols_tensor.specs.WordOrder.{IsRising}
 use Rattle.nichols_braid.specs.Braid.{BraidValue, act, scalar}
-use Rattle.nichols_braid.specs.Least.{PlainRelation}
+use Rattle.nichols_tensor.specs.Relation.{PlainRelation}
 
 -- the candidates of a table of relations
 abbrev pub candidates_of : List PlainRelation → List (List ℕ)

@@ -5,7 +5,8 @@ use Rattle.nichols_tensor.specs.Words.{up_to}
 use Rattle.nichols_braid.specs.Braid.{BraidValue}
 use Rattle.nichols_braid.specs.Derivation.{derived}
 use Rattle.nichols_braid.specs.Kernel.{is_killed}
-use Rattle.nichols_braid.specs.Least.{PlainRelation, basis, normal_form, relations}
+use Rattle.nichols_braid.specs.Least.{basis, normal_form, relations}
+use Rattle.nichols_tensor.specs.Relation.{PlainRelation}
 
 -- the number of a degree, its least words, the normal forms of the derivatives of each, and its relations
 abbrev pub PlainRule : Type 0

@@ -17,7 +17,8 @@ use Rattle.nichols_tensor.proofs.AllWords.{up_to_rises, push_less, last_less}
 use Rattle.nichols_tensor.proofs.Tests.{all_of_entries}
 use Rattle.nichols_braid.specs.Braid.{BraidValue, IsLetter}
 use Rattle.nichols_braid.specs.Kernel.{Vanishing}
-use Rattle.nichols_braid.specs.Least.{PlainRelation, is_least, basis, normal_form, candidates, relations}
+use Rattle.nichols_braid.specs.Least.{is_least, basis, normal_form, candidates, relations}
+use Rattle.nichols_tensor.specs.Relation.{PlainRelation}
 use Rattle.nichols_braid.proofs.Reduction.{from_basis, basis_rises}
 
 -- ---- which words

@@ -1,7 +1,7 @@
 -- Braids: a rack with a 2-cocycle (Andruskiewitsch and Graña, "From racks to pointed Hopf algebras").
 use Rattle.std.specs.Prelude.{◌≡◌, ◌≢◌, ℕ, ◌+◌, ◌-◌, ◌*◌, ◌≤◌, List, length, slice_index}
 use Rattle.nichols_field.specs.Field.{FieldValue, IsField, IsElement, times}
-use Rattle.nichols_tensor.specs.Words.{IsLetterOf}
+use Rattle.nichols_tensor.specs.Words.{IsLetterOf, letter_limit}
 
 -- a braid as contracts see it: its field, its number n of letters, and the tables of the rack and of the cocycle,
 -- each with its rows one after the other
@@ -39,10 +39,6 @@ pub record IsCocycle (braid : BraidValue) : Type 0 where
   pub nonzero : (i j : ℕ) → IsLetter braid i → IsLetter braid j → scalar braid i j ≢ 0
   pub law : (i j k : ℕ) → IsLetter braid i → IsLetter braid j → IsLetter braid k →
       times braid.field (scalar braid i (act braid j k)) (scalar braid j k) ≡ times braid.field (scalar braid (act braid i j) (act braid i k)) (scalar braid i k)
-
--- the most letters of a braid
-abbrev pub letter_limit : ℕ
-letter_limit = 24
 
 -- a rack of 1 to 24 letters with a 2-cocycle
 pub record IsBraid (braid : BraidValue) : Type 0 where

@@ -3,8 +3,8 @@ use Rattle.std.specs.Prelude.{◌≡◌, ℕ, ◌+◌, ◌*◌, ◌&&◌, not, B
 use Rattle.std.specs.List.{flat_map, list_all}
 use Rattle.std.specs.Option.{option_or, option_map}
 use Rattle.nichols_field.specs.Field.{FieldValue, residue, times}
-use Rattle.nichols_tensor.specs.Words.{up_to}
-use Rattle.nichols_braid.specs.Braid.{BraidValue, entry, act, scalar, letter_limit}
+use Rattle.nichols_tensor.specs.Words.{up_to, letter_limit}
+use Rattle.nichols_braid.specs.Braid.{BraidValue, entry, act, scalar}
 use Rattle.nichols_braid.specs.declared.faults.BraidFault.{BraidFault}
 use Rattle.nichols_braid.specs.declared.faults.BraidFault.TheVariants.{NotDistributive, Unbuilt}
 use Rattle.nichols_braid.specs.declared.faults.RackLaw.{RackLaw}

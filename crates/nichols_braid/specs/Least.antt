@@ -4,6 +4,7 @@ use Rattle.std.specs.Prelude.{ℕ, zero, suc, Bool, not, List, [], ◌∷◌, �
 use Rattle.std.specs.List.{flat_map, list_any}
 use Rattle.nichols_tensor.specs.Combination.{Combination, single, minus, without_zeros}
 use Rattle.nichols_tensor.specs.Words.{up_to, words, words_before, combinations}
+use Rattle.nichols_tensor.specs.Relation.{PlainRelation}
 use Rattle.nichols_braid.specs.Braid.{BraidValue}
 use Rattle.nichols_braid.specs.Kernel.{Vanishing}
 
@@ -29,10 +30,6 @@ normal_form vanishes braid m f =
 unfoldable pub candidates : Vanishing → BraidValue → ℕ → List (List ℕ)
 candidates vanishes braid zero = [] ∷ []
 candidates vanishes braid (suc m) = flat_map (λ u. map (λ b. u ++ b ∷ []) (up_to braid.letters)) (basis vanishes braid m)
-
--- a candidate that isn't least, with its normal form
-abbrev pub PlainRelation : Type 0
-PlainRelation = record { candidate : List ℕ; form : Combination }
 
 -- the relations of degree m, with rising candidates
 unfoldable pub relations : Vanishing → BraidValue → ℕ → List PlainRelation

@@ -2,8 +2,8 @@
 use Rattle.std.specs.Prelude.{◌≡◌, ℕ, ◌*◌, ◌≤◌, List, length}
 use Rattle.std.specs.List.{AllByRecursion}
 use Rattle.nichols_field.specs.Field.{FieldValue, IsElement}
-use Rattle.nichols_tensor.specs.Words.{IsLetterOf}
-use Rattle.nichols_braid.specs.Braid.{BraidValue, letter_limit}
+use Rattle.nichols_tensor.specs.Words.{IsLetterOf, letter_limit}
+use Rattle.nichols_braid.specs.Braid.{BraidValue}
 
 -- a number of letters, with the entries of a table of letters by letters
 pub record RackEntries : Type 0 where

@@ -6,7 +6,8 @@ use Rattle.std.proofs.lemmas.Bool.Decides.{nat_tests, Decides-eqb}
 use Rattle.std.proofs.lemmas.List.{nil_from_length}
 use Rattle.nichols_braid.specs.Braid.{BraidValue, IsBraid}
 use Rattle.nichols_braid.specs.Kernel.{is_in_kernel, is_killed}
-use Rattle.nichols_braid.specs.Least.{PlainRelation, basis, relations}
+use Rattle.nichols_braid.specs.Least.{basis, relations}
+use Rattle.nichols_tensor.specs.Relation.{PlainRelation}
 use Rattle.nichols_braid.specs.End.{dimension, is_empty_degree}
 use Rattle.nichols_braid.proofs.FirstDegree.{basis_first}
 use Rattle.nichols_lift.proofs.Readings.{one_reading}

@@ -9,7 +9,8 @@ use Rattle.nichols_tensor.proofs.Entries.{from_filter}
 use Rattle.nichols_tensor.proofs.Enumeration.{enumerated_words}
 use Rattle.nichols_braid.specs.Braid.{BraidValue, IsBraid}
 use Rattle.nichols_braid.specs.Kernel.{Vanishing, is_in_kernel, is_killed}
-use Rattle.nichols_braid.specs.Least.{are_congruent, is_least, basis, normal_form, candidates, PlainRelation, relations}
+use Rattle.nichols_braid.specs.Least.{are_congruent, is_least, basis, normal_form, candidates, relations}
+use Rattle.nichols_tensor.specs.Relation.{PlainRelation}
 use Rattle.nichols_braid.specs.IdealTest.{IsIdealTest}
 use Rattle.nichols_braid.specs.RightProduct.{times_letter}
 use Rattle.nichols_braid.proofs.Degrees.{minus_degree, minus_over}

@@ -5,7 +5,8 @@ use Rattle.nichols_tensor.specs.Combination.{Combination, single}
 use Rattle.nichols_tensor.specs.Positions.{word_at}
 use Rattle.nichols_braid.specs.Braid.{BraidValue, IsBraid}
 use Rattle.nichols_braid.specs.Kernel.{is_in_kernel}
-use Rattle.nichols_braid.specs.Least.{is_least, basis, normal_form, candidates, PlainRelation, relations}
+use Rattle.nichols_braid.specs.Least.{is_least, basis, normal_form, candidates, relations}
+use Rattle.nichols_tensor.specs.Relation.{PlainRelation}
 use Rattle.nichols_braid.specs.LinearTest.{IsLinearTest}
 use Rattle.nichols_braid.specs.IdealTest.{IsIdealTest}
 use Rattle.nichols_braid.specs.Rows.{made}

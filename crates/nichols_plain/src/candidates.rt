@@ -3,8 +3,8 @@
 ghost use Rattle.std.specs.Prelude.{◌≡◌, ◌<◌, ◌≤◌, ◌++◌, ◌∷◌, [], IfOk, length, map};
 ghost use Rattle.std.specs.Result.{OnOk};
 ghost use Rattle.std.specs.List.{AllByRecursion, flat_map};
-ghost use Rattle.nichols_tensor.specs.Words.{up_to};
-ghost use Rattle.nichols_words.specs.Word.{letter_limit, word_limit};
+ghost use Rattle.nichols_tensor.specs.Words.{up_to, letter_limit};
+ghost use Rattle.nichols_words.specs.Word.{word_limit};
 
 use nichols_words::Word;
 use std::alloc::{AllocError, Global};

@@ -2,5 +2,6 @@ pub mod Members
 pub mod Combination
 pub mod WordOrder
 pub mod Words
+pub mod Relation
 pub mod Laws
 pub mod Positions

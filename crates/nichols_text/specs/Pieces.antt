@@ -3,7 +3,7 @@ use Rattle.std.specs.Prelude.{ℕ, Bool, List, ◌++◌, codes, decimal, length,
 use Rattle.std.specs.List.{flat_map}
 use Rattle.nichols_field.specs.Field.{modulus_of}
 use Rattle.nichols_braid.specs.Braid.{BraidValue}
-use Rattle.nichols_braid.specs.Least.{PlainRelation}
+use Rattle.nichols_tensor.specs.Relation.{PlainRelation}
 use Rattle.nichols_text.specs.Words.{word_text, relation_line}
 use Rattle.nichols_text.specs.declared.end.EndLine.{EndLine}
 use Rattle.nichols_text.specs.declared.end.EndLine.TheVariants.{Closed, DegreeLimit}

@@ -2,7 +2,7 @@
 use Rattle.std.specs.Prelude.{ℕ, List, [], ◌∷◌, ◌++◌, codes, decimal}
 use Rattle.std.specs.List.{flat_map}
 use Rattle.nichols_tensor.specs.Combination.{Term, Combination}
-use Rattle.nichols_braid.specs.Least.{PlainRelation}
+use Rattle.nichols_tensor.specs.Relation.{PlainRelation}
 
 -- the letters joined by dots; the empty word is `e`
 unfoldable pub word_text : List ℕ → List ℕ

@@ -5,7 +5,8 @@ use Rattle.std.proofs.lemmas.Bool.Decides.{nat_tests}
 use Rattle.nichols_braid.specs.Braid.{BraidValue}
 use Rattle.nichols_braid.specs.Kernel.{is_in_kernel}
 use Rattle.nichols_braid.specs.End.{dimension, is_empty_degree}
-use Rattle.nichols_braid.specs.Least.{PlainRelation, basis, relations}
+use Rattle.nichols_braid.specs.Least.{basis, relations}
+use Rattle.nichols_tensor.specs.Relation.{PlainRelation}
 use Rattle.nichols_text.specs.Pieces.{degree_piece}
 use Rattle.nichols_top.specs.Report.{degree_due}
 use Rattle.nichols_graded.specs.Graded.{GradedValue, end_at, step, advanced}

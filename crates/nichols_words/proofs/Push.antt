@@ -7,9 +7,9 @@ use Rattle.std.proofs.Math.Seq.{drop-append_seam}
 use Rattle.std.proofs.Math.ListN.{drop_of_length-le}
 use Rattle.std.proofs.lemmas.Slice.{take-put_mid_below}
 use borrow.Rule.Slice.PartMut.{put_mid, post_of}
-use Rattle.nichols_tensor.specs.Words.{IsLetterOf, IsWordOver}
+use Rattle.nichols_tensor.specs.Words.{IsLetterOf, IsWordOver, letter_limit}
 use Rattle.nichols_tensor.proofs.Over.{word_over-append, word_over-take}
-use Rattle.nichols_words.specs.Word.{letter_limit, word_limit}
+use Rattle.nichols_words.specs.Word.{word_limit}
 use Rattle.nichols_words.specs.Inline.{IsInline}
 
 pub inline-push : (n : ℕ) (xs : List ℕ) (x : ℕ) → IsInline n xs → n < word_limit → IsLetterOf letter_limit x → IsInline (n + 1) (set xs n x)

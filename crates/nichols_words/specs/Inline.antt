@@ -2,8 +2,8 @@
 use Rattle.std.specs.Prelude.{◌≡◌, ℕ, ◌-◌, ◌≤◌, List, ◌++◌, length, take, drop, replicate}
 use Rattle.std.proofs.Common.{arith, take-append-drop}
 use Rattle.std.proofs.lemmas.Grind.{common_steps}
-use Rattle.nichols_tensor.specs.Words.{IsWordOver}
-use Rattle.nichols_words.specs.Word.{letter_limit, word_limit}
+use Rattle.nichols_tensor.specs.Words.{IsWordOver, letter_limit}
+use Rattle.nichols_words.specs.Word.{word_limit}
 
 -- the array's first entries are a word
 pub record IsInline (len : ℕ) (letters : List ℕ) : Type 0 where

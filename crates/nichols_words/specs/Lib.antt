@@ -3,4 +3,3 @@ pub mod Inline
 pub mod Fields
 pub mod Next
 pub mod Comb
-pub mod Relation

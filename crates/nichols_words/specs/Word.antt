@@ -1,14 +1,10 @@
 -- What holds of each word that the program keeps.
 use Rattle.std.specs.Prelude.{ℕ, ◌≤◌, List, length}
-use Rattle.nichols_tensor.specs.Words.{IsWordOver}
+use Rattle.nichols_tensor.specs.Words.{IsWordOver, letter_limit}
 
 -- the most letters of a word
 abbrev pub word_limit : ℕ
 word_limit = 60
-
--- the greatest letter
-abbrev pub letter_limit : ℕ
-letter_limit = 24
 
 -- a list of at most 60 letters, each of them from 1 to 24
 pub record IsWord (w : List ℕ) : Type 0 where

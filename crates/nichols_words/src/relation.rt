@@ -14,7 +14,7 @@ pub struct Relation {
 }
 
 impl Model for Relation {
-    ghost use Rattle.nichols_words.specs.Relation.{PlainRelation};
+    ghost use Rattle.nichols_tensor.specs.Relation.{PlainRelation};
 
     ghost Value = { PlainRelation };
 

@@ -2,8 +2,8 @@
 
 ghost use Rattle.std.specs.Prelude.{◌≡◌, ◌<◌, ◌≤◌, ◌↔◌, ◌++◌, ◌∷◌, [], IsTrue, length, take, slice_index, slice_set};
 ghost use Rattle.std.specs.Bool.{OnTrue, OnFalse};
-ghost use Rattle.nichols_tensor.specs.Words.{IsLetterOf};
-ghost use Rattle.nichols_words.specs.Word.{IsWord, letter_limit, word_limit};
+ghost use Rattle.nichols_tensor.specs.Words.{IsLetterOf, letter_limit};
+ghost use Rattle.nichols_words.specs.Word.{IsWord, word_limit};
 
 use std::marker::Model;
 

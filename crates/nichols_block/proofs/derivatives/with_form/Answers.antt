@@ -4,7 +4,7 @@ use Rattle.std.proofs.lemmas.Result.{IfOk-weaker}
 use Rattle.nichols_field.specs.Field.{IsField, plus, times}
 use Rattle.nichols_field.proofs.FieldLaws.{one_is_element}
 use Rattle.nichols_tensor.specs.Combination.{HasSameValues, scaled, value_at}
-use Rattle.nichols_braid.specs.Least.{PlainRelation}
+use Rattle.nichols_tensor.specs.Relation.{PlainRelation}
 use Rattle.nichols_block.specs.Forms.{form_in}
 use Rattle.nichols_block.proofs.FormsOf.{form_found, form_missed, sum_values_of}
 use Rattle.nichols_block.proofs.derivatives.with_form.Goals as goal

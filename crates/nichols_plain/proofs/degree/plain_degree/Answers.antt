@@ -2,7 +2,7 @@ use Rattle.std.proofs.Common.{◌≡◌, ◌≤◌, ◌<◌, ◌∙◌, ◌++◌
 use Rattle.std.specs.List.{AllByRecursion}
 use Rattle.nichols_braid.specs.Kernel.{is_in_kernel}
 use Rattle.nichols_braid.proofs.Candidates.{candidates_first, with_letters}
-use Rattle.nichols_words.specs.Word.{letter_limit}
+use Rattle.nichols_tensor.specs.Words.{letter_limit}
 use Rattle.nichols_plain.proofs.Steps.{basis_has_room, next_columns, next_candidates}
 use Rattle.nichols_plain.proofs.degree.plain_degree.Goals as goal
 
