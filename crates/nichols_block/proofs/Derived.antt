@@ -3,7 +3,8 @@ use Rattle.std.proofs.Common.{◌≡◌, ◌≢◌, ℕ, zero, suc, Bool, true, 
 use Rattle.std.specs.Prelude.{if◌then◌else◌}
 use Rattle.std.specs.List.{filter, AllByRecursion}
 use Rattle.std.specs.Cmp.Lexicographic.{same_text, other_text}
-use Rattle.nichols_field.specs.Field.{FieldValue, IsField, negative}
+use Rattle.std.proofs.lemmas.Bool.{not-true}
+use Rattle.nichols_field.specs.Field.{FieldValue, IsField}
 use Rattle.nichols_tensor.specs.Members.{IsIn}
 use Rattle.nichols_tensor.specs.Combination.{Combination, value_at, HasSameValues, AllElements, AllAmong, same_letters, single, scaled, minus, extended, words_of}
 use Rattle.nichols_tensor.specs.Words.{IsWordOver}
@@ -21,7 +22,7 @@ use Rattle.nichols_braid.specs.LeastLaws.{IsNormalForm}
 use Rattle.nichols_braid.specs.LinearTest.{IsLinearTest}
 use Rattle.nichols_braid.specs.RightProduct.{times_letter}
 use Rattle.nichols_braid.proofs.BraidLaws.{derivation_rule, killed_is_linear}
-use Rattle.nichols_braid.proofs.Maps.{times_letter-append, times_letter-scaled, times_letter_is_extended}
+use Rattle.nichols_braid.proofs.Maps.{times_letter_is_extended, times_letter-minus}
 use Rattle.nichols_braid.proofs.Degrees.{derived_degree, derived_over}
 use Rattle.nichols_braid.proofs.Congruences.{AreCongruent, congruent_same, congruent_trans, congruent_left, congruent_right, congruent-append, congruent-scaled}
 use Rattle.nichols_braid.proofs.Reduction.{in_basis, from_basis}
@@ -60,9 +61,6 @@ among-extended k image [] ws h = tt
 among-extended k image (t ∷ f) ws h =
     among-append (scaled k t.coefficient (image t.word)) (extended k image f) ws (among-scaled k t.coefficient (image t.word) ws h.0) (among-extended k image f ws h.1)
 
-times_letter-minus : (k : FieldValue) (f g : Combination) (b : ℕ) → times_letter (minus k f g) b ≡ minus k (times_letter f b) (times_letter g b)
-times_letter-minus k f g b = times_letter-append f (scaled k (negative k 1) g) b ∙ ap (λ h. times_letter f b ++ h) (times_letter-scaled k (negative k 1) g b)
-
 -- ---- the table of a degree
 
 form_listed : (F : List ℕ → Combination) (ws : List (List ℕ)) (w : List ℕ) → IsIn w ws → form_in (map (λ v. record { candidate = v; form = F v }) ws) w ≡ F w
@@ -85,10 +83,6 @@ pub record IsFormOf (braid : BraidValue) (m : ℕ) (w : List ℕ) (g : Combinati
   pub among : AllAmong g (basis is_killed braid m)
   pub congruent : AreCongruent braid.field (is_killed braid m) (single w) g
 
-negated : (b : Bool) → not b ≡ true → b ≡ false
-negated true h = cc
-negated false h = refl
-
 -- the table of a degree has the forms of its candidates
 pub table_form : (braid : BraidValue) → IsBraid braid → (m : ℕ) (w : List ℕ) → IsIn w (candidates is_killed braid m) → IsFormOf braid m w (form_in (relations is_killed braid m) w)
 unfolding AllAmong
@@ -107,7 +101,7 @@ table_form braid is m w i = subst (λ table. IsFormOf braid m w (form_in table w
     at true e =
         let none : IsIn w (candidates_of (map (relation_at is_killed braid m) others)) → ⊥ =
         λ j. let (h, other) = from_filter (λ v. not (is_least is_killed braid v)) w (candidates is_killed braid m) (subst (IsIn w) (candidates_listed form others) j) in
-        let c : true ≡ false = sym e ∙ negated (is_least is_killed braid w) other in cc in
+        let c : true ≡ false = sym e ∙ not-true (is_least is_killed braid w) other in cc in
         subst (IsFormOf braid m w) (sym (form_elsewhere (map (relation_at is_killed braid m) others) w none))
         (record {
           among = (in_basis is_killed braid m w own.0 own.1 e, tt);

@@ -10,7 +10,7 @@ use Rattle.std.specs.Cmp.Lexicographic.{same_text}
 use Rattle.nichols_field.specs.Field.{FieldValue, IsField, plus, times}
 use Rattle.nichols_field.proofs.FieldLaws.{plus_assoc, times_assoc, times_plus}
 use Rattle.nichols_tensor.specs.Members.{IsIn}
-use Rattle.nichols_tensor.specs.Combination.{Term, Combination, value_at, HasSameValues, AllElements, same_letters, single, scaled, extended}
+use Rattle.nichols_tensor.specs.Combination.{Term, Combination, value_at, HasSameValues, same_letters, single, scaled, extended}
 use Rattle.nichols_tensor.proofs.Linear.{extended-append}
 use Rattle.nichols_tensor.specs.WordOrder.{word_cmp, IsRising}
 use Rattle.nichols_tensor.proofs.Ordered.{before_all}
@@ -47,11 +47,6 @@ form_at (r ∷ table) (suc i) d rising less = at (same_letters r.candidate (get_
         cond b r.form (form_in table (get_or table i d).candidate) ≡ (get_or table i d).form
     at true e rest = absurd (before_all r.candidate (candidates_of table) rising.0 rising.1 (subst (λ w. IsIn w (candidates_of table)) (sym (same_text r.candidate (get_or table i d).candidate (sym e))) (candidate_at table i d (omega arith))))
     at false e rest = rest
-
-pub elements_at : (k : FieldValue) (table : List PlainRelation) (i : ℕ) (d : PlainRelation) → AllByRecursion (λ r. AllElements k r.form) table → i < length table → AllElements k (get_or table i d).form
-elements_at k [] i d h less = absurd (omega arith)
-elements_at k (r ∷ table) zero d h less = h.0
-elements_at k (r ∷ table) (suc i) d h less = elements_at k table i d h.1 (omega arith)
 
 -- a sum, as a combination
 pub sum_values : (k : FieldValue) → IsField k → (by : ℕ) (f g r : Combination) → ((w : List ℕ) → value_at k r w ≡ plus k (value_at k f w) (times k by (value_at k g w))) → HasSameValues k r (f ++ scaled k by g)

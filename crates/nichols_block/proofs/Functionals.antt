@@ -8,16 +8,17 @@ use Rattle.nichols_field.specs.Field.{FieldValue, IsField, IsElement, plus, time
 use Rattle.nichols_field.proofs.FieldLaws.{plus_zero, times_zero, times_one, zero_is_element, plus_is_element}
 use Rattle.nichols_field.proofs.FieldAlgebra.{zero_plus, times_chosen}
 use Rattle.nichols_tensor.specs.Members.{IsIn}
-use Rattle.nichols_tensor.specs.Combination.{Combination, value_at, IsZero, AllElements, AllAmong, same_letters, single, scaled, extended, words_of}
+use Rattle.nichols_tensor.specs.Combination.{Combination, value_at, IsZero, AllElements, AllAmong, same_letters, single, extended, words_of}
 use Rattle.nichols_tensor.specs.Positions.{word_at}
 use Rattle.nichols_tensor.specs.Words.{up_to, IsWordOver}
 use Rattle.nichols_tensor.proofs.Entries.{in_map}
 use Rattle.nichols_tensor.proofs.Letters.{in_up_to, from_up_to}
 use Rattle.nichols_tensor.proofs.Linear.{extended-single}
-use Rattle.nichols_tensor.proofs.Building.{elements-append, elements-scaled}
+use Rattle.nichols_tensor.proofs.Building.{elements-extended}
 use Rattle.nichols_tensor.proofs.Ordered.{is_in_or_not, zero_at_others}
 use Rattle.nichols_tensor.proofs.Over.{all_at, all_of_words}
-use Rattle.nichols_tensor.proofs.Values.{weight, weight_is_element, weight-append, weight-scaled, weightless}
+use Rattle.nichols_tensor.proofs.Values.{weight, weight_is_element, weightless, weight-extended}
+use Rattle.nichols_tensor.proofs.Tests.{all_of_entries}
 use Rattle.nichols_braid.specs.Braid.{BraidValue, IsBraid, IsLetter}
 use Rattle.nichols_braid.specs.Derivation.{derived_word, derived}
 use Rattle.nichols_braid.specs.Kernel.{is_killed, IsKilled}
@@ -27,7 +28,6 @@ use Rattle.nichols_braid.specs.LeastLaws.{IsNormalForm}
 use Rattle.nichols_braid.proofs.BraidLaws.{killed_is_linear}
 use Rattle.nichols_braid.proofs.Killed.{is_killed_sound, is_killed_complete}
 use Rattle.nichols_braid.proofs.Maps.{same_weight_on, weight-plus, extended_same, everywhere}
-use Rattle.nichols_braid.proofs.Lists.{all_from_in}
 use Rattle.nichols_braid.proofs.Congruences.{AreCongruent, congruent_sym, congruent_left, passes_too, zero_passes}
 use Rattle.nichols_braid.proofs.Independence.{basis_is_independent}
 use Rattle.nichols_braid.proofs.Candidates.{from_candidates}
@@ -47,16 +47,6 @@ weight_none : (k : FieldValue) → IsField k → (φ : List ℕ → ℕ) (f : Co
 unfolding weight
 weight_none k is φ [] h = refl
 weight_none k is φ (t ∷ f) h = ap₂ (plus k) (ap (times k t.coefficient) h.0 ∙ times_zero k t.coefficient is) (weight_none k is φ f h.1) ∙ plus_zero k 0 (zero_is_element k is)
-
-weight-extended : (k : FieldValue) → IsField k → (ψ : List ℕ → ℕ) (image : List ℕ → Combination) (f : Combination) → weight k (λ v. weight k ψ (image v)) f ≡ weight k ψ (extended k image f)
-unfolding weight
-weight-extended k is ψ image [] = refl
-weight-extended k is ψ image (t ∷ f) =
-    sym (weight-append k is ψ (scaled k t.coefficient (image t.word)) (extended k image f) ∙ ap₂ (plus k) (weight-scaled k is ψ t.coefficient (image t.word)) (sym (weight-extended k is ψ image f)))
-
-elements-extended : (k : FieldValue) → IsField k → (image : List ℕ → Combination) (f : Combination) → AllElements k (extended k image f)
-elements-extended k is image [] = tt
-elements-extended k is image (t ∷ f) = elements-append k (scaled k t.coefficient (image t.word)) (extended k image f) (elements-scaled k is t.coefficient (image t.word)) (elements-extended k is image f)
 
 -- ---- one form
 
@@ -158,7 +148,7 @@ sum_of_rows k is ws offset column form [] f e = weight_none k is (λ w. entry k 
 sum_of_rows k is ws offset column form (a ∷ letters) f e =
     same_weight_on k (λ w. entry k (row_cells ws offset (map (form w) (a ∷ letters))) column) (λ w. plus k (weight k (mark ws offset column) (form w a)) (entry k (row_cells ws (offset + length ws) (map (form w) letters)) column)) f (each f e)
     ∙ weight-plus k is (λ w. weight k (mark ws offset column) (form w a)) (λ w. entry k (row_cells ws (offset + length ws) (map (form w) letters)) column) f
-    ∙ ap₂ (plus k) (weight-extended k is (mark ws offset column) (λ w. form w a) f) (sum_of_rows k is ws (offset + length ws) column form letters f (later f e))
+    ∙ ap₂ (plus k) (sym (weight-extended k is (mark ws offset column) (λ w. form w a) f)) (sum_of_rows k is ws (offset + length ws) column form letters f (later f e))
   where
     each : (f : Combination) → AllByRecursion (λ t. AllByRecursion (λ b. AllElements k (form t.word b)) (a ∷ letters)) f →
         AllByRecursion (λ t. entry k (row_cells ws offset (map (form t.word) (a ∷ letters))) column ≡ plus k (weight k (mark ws offset column) (form t.word a)) (entry k (row_cells ws (offset + length ws) (map (form t.word) letters)) column)) f
@@ -233,7 +223,7 @@ rows_tell braid is m = record {
     all_elements : (f : Combination) → AllAmong f (candidates is_killed braid (suc m)) → AllByRecursion (λ t. AllByRecursion (λ a. AllElements k (derived_form braid (suc m) t.word a)) (up_to braid.letters)) f
     all_elements [] h = tt
     all_elements (t ∷ f) h = (
-      all_from_in (λ a. AllElements k (derived_form braid (suc m) t.word a)) (up_to braid.letters)
+      all_of_entries (λ a. AllElements k (derived_form braid (suc m) t.word a)) (up_to braid.letters)
           (λ a i.
           let own : (length t.word ≡ suc m) × IsWordOver braid.letters t.word = from_candidates is_killed braid (suc m) t.word h.0 in
           (derived_form_is_normal braid is m t.word a own.0 own.1 (from_up_to braid.letters a i)).elements),

@@ -2,11 +2,11 @@
 use Rattle.std.proofs.Common.{◌≡◌, ◌≤◌, ℕ, zero, suc, List, [], ◌∷◌, length, map, take, refl, ap, arith}
 use Rattle.std.specs.List.{AllByRecursion}
 use Rattle.nichols_tensor.specs.Members.{IsIn}
-use Rattle.nichols_braid.proofs.Lists.{all_from_in}
+use Rattle.nichols_tensor.proofs.Tests.{all_of_entries}
 
 -- what holds of the value of each entry
 pub all_mapped : {X Y : Type 0} (P : Y → Type 0) (f : X → Y) (xs : List X) → ((x : X) → IsIn x xs → P (f x)) → AllByRecursion P (map f xs)
-all_mapped P f xs h = go xs (all_from_in (λ x. P (f x)) xs h)
+all_mapped P f xs h = go xs (all_of_entries (λ x. P (f x)) xs h)
   where
     go : (ys : List _) → AllByRecursion (λ y. P (f y)) ys → AllByRecursion P (map f ys)
     go [] g = tt

@@ -56,21 +56,6 @@ level_rule levels braid rules m rule view are within at =
     let inside : m < length rules = omega (arith, are.some) in
     at ∙ ap (λ rs. get_or rs m rule) are.whole ∙ rules_at braid (length rules) m rule inside ∙ ap (λ b. rule_of b m) (ap (λ (l : LevelsValue). l.braid) view)
 
--- degree 0 alone
-pub first_level : (braid : BraidValue) (rule : PlainRule) (rules : List PlainRule) → IsRuleOf braid 0 rule → rules ≡ [] ++ rule ∷ [] → AreLevels braid rules
-first_level braid rule rules is e =
-    subst (AreLevels braid) (sym (e ∙ ap (λ r. r ∷ []) is)) (record { some = omega arith; most = omega arith; whole = refl })
-
--- one degree more
-pub next_level : (braid : BraidValue) (rule : PlainRule) (rules more : List PlainRule) → AreLevels braid rules → length rules ≤ 60 → IsRuleOf braid (length rules) rule → more ≡ rules ++ rule ∷ [] → AreLevels braid more
-next_level braid rule rules more are room is e =
-    let count : length more ≡ suc (length rules) = ap length e ∙ length-append rules (rule ∷ []) ∙ (let one : length rules + 1 ≡ suc (length rules) = omega arith in one) in
-    record {
-      some = omega arith;
-      most = omega arith;
-      whole = e ∙ ap₂ (λ rs r. rs ++ r ∷ []) are.whole is ∙ ap (rules_below braid) (sym count);
-    }
-
 pub empty_says : (b : Bool) (us ws : List (List ℕ)) → us ≡ ws → b ≡ nat_eq (length us) 0 → IsTrue b ↔ (ws ≡ [])
 empty_says b us ws e h = (λ is_true. sym e ∙ nil us (sym h ∙ is_true), λ none. h ∙ ap (λ vs. nat_eq (length vs) 0) (e ∙ none))
   where

@@ -5,19 +5,18 @@ use Rattle.std.proofs.lemmas.List.{length-map, get_or-map}
 use Rattle.nichols_field.specs.Field.{FieldValue}
 use Rattle.nichols_tensor.specs.Members.{IsIn}
 use Rattle.nichols_tensor.specs.Combination.{Combination, AllElements}
-use Rattle.nichols_tensor.specs.Words.{up_to, IsWordOver}
+use Rattle.nichols_tensor.specs.Words.{up_to, IsWordOver, with_letters}
 use Rattle.nichols_tensor.specs.WordOrder.{IsRising}
-use Rattle.nichols_tensor.proofs.Letters.{from_up_to}
+use Rattle.nichols_tensor.proofs.Letters.{from_up_to, up_to_length}
 use Rattle.nichols_braid.specs.Braid.{BraidValue, IsBraid, IsLetter}
 use Rattle.nichols_braid.specs.Kernel.{is_killed}
 use Rattle.nichols_braid.specs.Least.{basis, candidates, relations}
 use Rattle.nichols_tensor.specs.Relation.{PlainRelation}
+use Rattle.nichols_tensor.proofs.Tests.{all_of_entries}
 use Rattle.nichols_braid.specs.LeastLaws.{IsNormalForm}
 use Rattle.nichols_braid.proofs.BraidLaws.{killed_is_linear}
-use Rattle.nichols_braid.proofs.Lists.{all_from_in}
-use Rattle.nichols_braid.proofs.Rearranged.{up_to_length}
 use Rattle.nichols_braid.proofs.Reduction.{from_basis, basis_rises}
-use Rattle.nichols_braid.proofs.Candidates.{from_candidates, candidates_rise, candidates_next, with_letters, relations_are}
+use Rattle.nichols_braid.proofs.Candidates.{from_candidates, candidates_rise, candidates_next, relations_are}
 use Rattle.nichols_braid.proofs.Spanning.{basis_among}
 use Rattle.nichols_braid.proofs.LeastLaws.{killed_candidates_span}
 use Rattle.nichols_echelon.specs.Cells.{Cell, entry}
@@ -40,7 +39,7 @@ use Rattle.nichols_block.proofs.Split.{IsSaid, AllSaid, HaveEntries, split_says,
 pub basis_is_short : (braid : BraidValue) (m : ℕ) (us : List (List ℕ)) → us ≡ basis is_killed braid m → m < 60 → AllByRecursion (λ w. length w < 60) us
 basis_is_short braid m us e less =
     subst (AllByRecursion (λ w. length w < 60)) (sym e)
-    (all_from_in (λ w. length w < 60) (basis is_killed braid m) (λ w i. let size : length w ≡ m = (from_basis is_killed braid m w i).0 in omega arith))
+    (all_of_entries (λ w. length w < 60) (basis is_killed braid m) (λ w i. let size : length w ≡ m = (from_basis is_killed braid m w i).0 in omega arith))
 
 pub basis_is_rising : (braid : BraidValue) (m : ℕ) (us : List (List ℕ)) → us ≡ basis is_killed braid m → IsRising us
 basis_is_rising braid m us e = subst IsRising (sym e) (basis_rises is_killed braid m)

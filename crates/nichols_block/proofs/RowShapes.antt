@@ -69,15 +69,6 @@ term_among [] ws i t h less at = absurd (omega arith)
 term_among (u ∷ f) ws zero t h less at = subst (λ (s : Term). IsIn s.word ws) (sym at) h.0
 term_among (u ∷ f) ws (suc i) t h less at = term_among f ws i t h.1 (omega arith) at
 
--- one more term
-pub form_cells-more : (ws : List (List ℕ)) (offset : ℕ) (f : Combination) (i : ℕ) (t d : Term) (old out more : List Cell) (column : ℕ) → i < length f → t ≡ get_or f i t → d ≡ t → column ≡ offset + place_in ws d.word →
-    out ≡ old ++ form_cells ws offset (take i f) → more ≡ out ++ record { column = column; coefficient = d.coefficient } ∷ [] → more ≡ old ++ form_cells ws offset (take (i + 1) f)
-form_cells-more ws offset f i t d old out more column less at view column_is before pushed =
-    let cell : Term → Cell = λ u. record { column = offset + place_in ws u.word; coefficient = u.coefficient } in
-    let made : ℕ → Cell = λ n. record { column = n; coefficient = d.coefficient } in
-    pushed ∙ ap₂ (λ xs c. xs ++ c ∷ []) before (ap made column_is ∙ ap cell view) ∙ append_assoc old (form_cells ws offset (take i f)) (cell t ∷ [])
-    ∙ ap (λ xs. old ++ xs) (sym (ap (map cell) (take_more f i t less ∙ ap (λ u. take i f ++ u ∷ []) (sym at)) ∙ map-append cell (take i f) (t ∷ [])))
-
 form_cells_rise : (ws : List (List ℕ)) → IsRising ws → (offset : ℕ) (f : Combination) → IsRising (words_of f) → AllAmong f ws → AreRising (columns_of (form_cells ws offset f))
 unfolding AllAmong
 form_cells_rise ws rising offset [] up among = tt
@@ -156,8 +147,3 @@ row_cells-more ws forms k offset f g out more less at view offset_is before push
     let e : offset ≡ 0 + length (take k forms) * length ws = offset_is ∙ ap (λ n. n * length ws) (sym (length_front forms k (omega arith))) ∙ (let z : length (take k forms) * length ws ≡ 0 + length (take k forms) * length ws = omega arith in z) in
     pushed ∙ ap₂ (λ xs h. xs ++ form_cells ws offset h) before view ∙ ap (λ n. row_cells ws 0 (take k forms) ++ form_cells ws n f) e
     ∙ sym (ap (row_cells ws 0) (take_more forms k f less ∙ ap (λ h. take k forms ++ h ∷ []) (sym at)) ∙ row_cells-push ws 0 (take k forms) f)
-
-pub form_over_at : (ws : List (List ℕ)) (forms : List Combination) (k : ℕ) (f : Combination) → AllByRecursion (IsFormOver ws) forms → k < length forms → f ≡ get_or forms k f → IsFormOver ws f
-form_over_at ws [] k f h less at = absurd (omega arith)
-form_over_at ws (g ∷ forms) zero f h less at = subst (IsFormOver ws) (sym at) h.0
-form_over_at ws (g ∷ forms) (suc k) f h less at = form_over_at ws forms k f h.1 (omega arith) at

@@ -7,7 +7,7 @@ use Rattle.std.proofs.lemmas.Simd.{map-map}
 use Rattle.std.proofs.Math.Seq.{get_or-append_seam}
 use Rattle.nichols_tensor.specs.Members.{IsIn}
 use Rattle.nichols_tensor.specs.Combination.{Combination, AllElements, AllAmong, single}
-use Rattle.nichols_tensor.specs.Words.{up_to, IsWordOver}
+use Rattle.nichols_tensor.specs.Words.{up_to, IsWordOver, with_letters}
 use Rattle.nichols_tensor.specs.WordOrder.{IsRising}
 use Rattle.nichols_tensor.proofs.Entries.{from_filter}
 use Rattle.nichols_braid.specs.Braid.{BraidValue, IsBraid, IsLetter}
@@ -15,15 +15,15 @@ use Rattle.nichols_braid.specs.Derivation.{derived}
 use Rattle.nichols_braid.specs.Kernel.{is_killed}
 use Rattle.nichols_braid.specs.Least.{is_least, basis, candidates, relations}
 use Rattle.nichols_tensor.specs.Relation.{PlainRelation}
+use Rattle.nichols_tensor.proofs.Tests.{all_of_entries}
+use Rattle.nichols_tensor.proofs.Letters.{up_to_length}
 use Rattle.nichols_braid.specs.LeastLaws.{IsNormalForm}
 use Rattle.nichols_braid.proofs.BraidLaws.{killed_is_linear}
-use Rattle.nichols_braid.proofs.Rearranged.{up_to_length}
 use Rattle.nichols_braid.proofs.Search.{up_to-next, up_to-prefix}
-use Rattle.nichols_braid.proofs.Lists.{all_from_in}
 use Rattle.nichols_braid.proofs.Degrees.{derived_degree, derived_over}
 use Rattle.nichols_braid.proofs.Reduction.{from_basis}
 use Rattle.nichols_braid.proofs.NormalForms.{form_is_normal}
-use Rattle.nichols_braid.proofs.Candidates.{relations_are, relation_at, from_candidates, with_letters, candidates_next}
+use Rattle.nichols_braid.proofs.Candidates.{relations_are, relation_at, from_candidates, candidates_next}
 use Rattle.nichols_braid.proofs.LeastLaws.{relations_rise}
 use Rattle.nichols_block.specs.Rule.{PlainRule, derived_form, derived_forms, rule_of, IsRuleOf}
 use Rattle.nichols_block.specs.Forms.{IsTable, AllShort}
@@ -69,10 +69,6 @@ pub pushed_letter : {X : Type 0} (f : ℕ → X) (a : ℕ) (out more : List X) (
 pushed_letter f a out more x before here pushed =
     pushed ∙ ap₂ (λ xs y. xs ++ y ∷ []) before here ∙ sym (ap (map f) (up_to-next a) ∙ map-append f (up_to a) ((a + 1) ∷ []))
 
-pub pushed_behind : {X : Type 0} (f : ℕ → X) (a : ℕ) (old out more : List X) (x : X) → out ≡ old ++ map f (up_to a) → x ≡ f (a + 1) → more ≡ out ++ x ∷ [] → more ≡ old ++ map f (up_to (a + 1))
-pushed_behind f a old out more x before here pushed =
-    pushed ∙ ap₂ (λ xs y. xs ++ y ∷ []) before here ∙ append_assoc old (map f (up_to a)) (f (a + 1) ∷ []) ∙ ap (λ xs. old ++ xs) (sym (ap (map f) (up_to-next a) ∙ map-append f (up_to a) ((a + 1) ∷ [])))
-
 pub forms_length : (braid : BraidValue) (m : ℕ) (u : List ℕ) (forms : List Combination) → forms ≡ derived_forms braid m u → length forms ≡ braid.letters
 unfolding derived_forms
 forms_length braid m u forms e = ap length e ∙ length-map (up_to braid.letters) (derived_form braid m u) ∙ up_to_length braid.letters
@@ -117,7 +113,7 @@ relation_elements braid is m (w ∷ ws) h =
 pub table_is_table : (braid : BraidValue) → IsBraid braid → (m : ℕ) (table : List PlainRelation) → table ≡ relations is_killed braid m → IsTable braid.field table
 table_is_table braid is m table e = record {
   rising = subst (λ (t : List PlainRelation). IsRising (map (λ r. r.candidate) t)) (sym e) (relations_rise is_killed braid m);
-  elements = subst (AllByRecursion (λ (r : PlainRelation). AllElements braid.field r.form)) (sym (e ∙ relations_are is_killed braid m)) (relation_elements braid is m others (all_from_in (λ w. (length w ≡ m) × IsWordOver braid.letters w) others of_others));
+  elements = subst (AllByRecursion (λ (r : PlainRelation). AllElements braid.field r.form)) (sym (e ∙ relations_are is_killed braid m)) (relation_elements braid is m others (all_of_entries (λ w. (length w ≡ m) × IsWordOver braid.letters w) others of_others));
 }
   where
     others : List (List ℕ)
@@ -170,10 +166,3 @@ pub followed_whole : (braid : BraidValue) (m : ℕ) (us : List (List ℕ)) (k : 
     out ≡ map (derived_forms braid (suc m)) (candidates is_killed braid (suc m))
 followed_whole braid m us k out e past h =
     h ∙ ap (λ vs. map (derived_forms braid (suc m)) (with_letters braid.letters vs)) (take_all k us past ∙ e) ∙ ap (map (derived_forms braid (suc m))) (sym (candidates_next is_killed braid m))
-
--- one more word, with each letter behind
-pub candidates_more : (n : ℕ) (us : List (List ℕ)) (k : ℕ) (u : List ℕ) (out more : List (List ℕ)) → k < length us → u ≡ get_or us k u → out ≡ with_letters n (take k us) → more ≡ out ++ map (λ b. u ++ b ∷ []) (up_to n) → more ≡ with_letters n (take (k + 1) us)
-candidates_more n us k u out more less at before pushed =
-    let own : List (List ℕ) = map (λ b. u ++ b ∷ []) (up_to n) in
-    pushed ∙ ap (λ xs. xs ++ own) before
-    ∙ sym (ap (with_letters n) (take_more us k u less ∙ ap (λ v. take k us ++ v ∷ []) (sym at)) ∙ flat_map-append (λ v. map (λ b. v ++ b ∷ []) (up_to n)) (take k us) (u ∷ []) ∙ ap (λ xs. with_letters n (take k us) ++ xs) (append-nil own))

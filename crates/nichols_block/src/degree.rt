@@ -3,13 +3,13 @@
 ghost use Rattle.std.specs.Prelude.{◌<◌, IfOk, suc};
 ghost use Rattle.nichols_block.specs.Rule.{IsRuleOf};
 
-use crate::candidates::candidates;
 use crate::derivatives::all_derivatives;
 use crate::reading::{least_derivatives, least_words, relations};
 use crate::rows::rows_of;
 use crate::rule::DegreeRule;
 use nichols_braid::Braid;
 use nichols_echelon::split_rows;
+use nichols_words::with_letters;
 use std::alloc::{AllocError, Global};
 
 /// The rule of the next degree, where `lower` is the rule of a degree from 0 to 59.
@@ -29,7 +29,7 @@ pub fn make_degree(
 {
     let field = braid.field();
     let below = lower.basis.as_slice();
-    let words = candidates(alloc, braid.letters(), below)?;
+    let words = with_letters(alloc, braid.letters(), below)?;
     if words.len() > u32::MAX as usize {
         return Err(AllocError);
     }

@@ -13,7 +13,6 @@ ghost use Rattle.nichols_braid.specs.Least.{basis, candidates, relations};
 ghost use Rattle.nichols_block.specs.Forms.{AllShort, IsTable, derived_from, followed_form, form_in};
 ghost use Rattle.nichols_block.specs.Rule.{IsRuleOf, derived_forms};
 
-use crate::candidates::followed;
 use crate::rule::{DegreeRule, Derivatives};
 use nichols_braid::Braid;
 use nichols_field::Field;
@@ -74,7 +73,7 @@ fn with_followed(
     let mut sum = total;
     for term in form.terms() {
         let factor = field.mul(by, term.coefficient);
-        let candidate = followed(term.word, letter);
+        let candidate = term.word.followed_by(letter);
         sum = with_form(alloc, field, &sum, factor, table, candidate)?;
     }
     Ok(sum)

@@ -2,7 +2,6 @@
 //! from the one below by skew derivations.
 #![tactic(auto)]
 
-mod candidates;
 mod degree;
 mod derivatives;
 mod levels;

@@ -7,15 +7,15 @@ use Rattle.std.proofs.lemmas.Bool.{cases_lt, cases_order}
 use Rattle.std.proofs.lemmas.Bool.Decides.{nat_tests, Decides-eqb}
 use Rattle.std.proofs.lemmas.List.Elements.{All-from_recursion}
 use Rattle.std.proofs.Math.Nat.{suc-mul, mul-le-mul}
-use Rattle.nichols_field.specs.Field.{FieldValue, IsField, IsElement, times}
+use Rattle.nichols_field.specs.Field.{FieldValue, IsField, IsElement}
+use Rattle.nichols_field.proofs.Table.{both_parts}
 use Rattle.nichols_tensor.specs.Members.{IsIn}
 use Rattle.nichols_tensor.specs.Words.{up_to, IsLetterOf}
 use Rattle.nichols_tensor.proofs.Entries.{of_each}
-use Rattle.nichols_braid.proofs.Letters.{in_up_to}
-use Rattle.nichols_braid.specs.Braid.{BraidValue, entry, act, scalar, IsLetter, IsRack, IsCocycle, IsBraid}
-use Rattle.nichols_braid.specs.Faults.{first_answer, first_triple, rack_fault_at, rack_fault, is_cocycle, cocycle_holds_at, braid_of, with_rack, with_cocycle, unless_fault, rack_table, cocycle_table, GivenScalars}
+use Rattle.nichols_tensor.proofs.Letters.{in_up_to}
+use Rattle.nichols_braid.specs.Braid.{BraidValue, entry, IsBraid}
+use Rattle.nichols_braid.specs.Faults.{first_answer, rack_fault_at, rack_fault, is_cocycle, cocycle_holds_at}
 use Rattle.nichols_braid.specs.Tables.{IsRackTable, IsCocycleTable}
-use Rattle.nichols_braid.specs.declared.faults.BraidFault.{BraidFault}
 use Rattle.nichols_braid.specs.declared.faults.BraidFault.TheVariants.{NotDistributive, Unbuilt}
 use Rattle.nichols_braid.specs.declared.faults.RackLaw.{RackLaw}
 use Rattle.nichols_braid.specs.declared.faults.RackLaw.TheVariants.{Bijective, Distributive}
@@ -93,18 +93,14 @@ distributive_from n rack none i j k li lj lk =
     at true e none = (Decides-eqb _ _).0 e
     at false e none = cc
 
-both : (a b : Bool) → (a && b) ≡ true → (a ≡ true) × (b ≡ true)
-both true b h = (refl, h)
-both false b h = cc
-
-abbrev braid_with : FieldValue → ℕ → List ℕ → List ℕ → BraidValue
+abbrev pub braid_with : FieldValue → ℕ → List ℕ → List ℕ → BraidValue
 braid_with k n rack cocycle = record { field = k; letters = n; rack = rack; cocycle = cocycle }
 
 pub accepted : (k : FieldValue) → IsField k → (n : ℕ) (rack cocycle : List ℕ) → IsRackTable n rack → rack_fault n rack Bijective ≡ None → rack_fault n rack Distributive ≡ None →
     IsCocycleTable k n cocycle → is_cocycle (braid_with k n rack cocycle) ≡ true → IsBraid (braid_with k n rack cocycle)
 unfolding is_cocycle
 accepted k is n rack cocycle table bijective distributive scalars lawful =
-    let parts : (list_all (λ q. not (nat_eq q 0)) cocycle ≡ true) × (list_all (λ i. list_all (λ j. list_all (cocycle_holds_at (braid_with k n rack cocycle) i j) (up_to n)) (up_to n)) (up_to n) ≡ true) = both _ _ lawful in
+    let parts : (list_all (λ q. not (nat_eq q 0)) cocycle ≡ true) × (list_all (λ i. list_all (λ j. list_all (cocycle_holds_at (braid_with k n rack cocycle) i j) (up_to n)) (up_to n)) (up_to n) ≡ true) = both_parts _ _ lawful in
     record {
       field = is;
       least = table.least;

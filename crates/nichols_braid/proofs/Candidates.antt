@@ -7,7 +7,7 @@ use Rattle.std.proofs.lemmas.List.{append-nil}
 use Rattle.std.specs.declared.cmp.Ordering.TheVariants.{Less}
 use Rattle.nichols_tensor.specs.Members.{IsIn}
 use Rattle.nichols_tensor.specs.Combination.{single}
-use Rattle.nichols_tensor.specs.Words.{up_to, IsWordOver}
+use Rattle.nichols_tensor.specs.Words.{up_to, IsWordOver, with_letters}
 use Rattle.nichols_tensor.specs.WordOrder.{word_cmp, IsBelowFirst, IsRising}
 use Rattle.nichols_tensor.proofs.Entries.{in_map, in_flat_map, from_map, from_flat_map}
 use Rattle.nichols_tensor.proofs.Letters.{in_up_to, from_up_to}
@@ -24,9 +24,6 @@ use Rattle.nichols_braid.proofs.Reduction.{from_basis, basis_rises}
 -- ---- which words
 
 -- the words with each letter behind
-abbrev pub with_letters : ℕ → List (List ℕ) → List (List ℕ)
-with_letters n us = flat_map (λ u. map (λ b. u ++ b ∷ []) (up_to n)) us
-
 pub candidates_first : (vanishes : Vanishing) (braid : BraidValue) → candidates vanishes braid 0 ≡ [] ∷ []
 unfolding candidates
 candidates_first vanishes braid = refl

@@ -6,10 +6,10 @@ use Rattle.std.proofs.lemmas.List.{length-map}
 use Rattle.nichols_field.specs.Field.{FieldValue, negative}
 use Rattle.nichols_tensor.specs.Combination.{Term, Combination, scaled, minus, extended}
 use Rattle.nichols_tensor.specs.Words.{IsWordOver, IsOver, HasDegree}
+use Rattle.nichols_tensor.proofs.Pushed.{pushed_length, pushed_over}
 use Rattle.nichols_braid.specs.Braid.{BraidValue, IsLetter, IsRack, act}
 use Rattle.nichols_braid.specs.Derivation.{scalars_met, derived_word, derived}
 use Rattle.nichols_braid.specs.RightProduct.{times_letter}
-use Rattle.nichols_braid.proofs.WordLists.{pushed_length, pushed_over}
 
 -- ---- what holds of the words of each term
 

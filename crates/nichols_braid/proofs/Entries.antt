@@ -6,14 +6,11 @@ use Rattle.std.specs.Prelude.{Option, option_map, ℤ, pos, negsuc, replicate}
 use Rattle.std.specs.List.{AllByRecursion}
 use Rattle.std.proofs.lemmas.Bool.Decides.{nat_tests, Decides-eqb}
 use Rattle.nichols_tensor.specs.Words.{IsLetterOf}
+use Rattle.nichols_tensor.proofs.Over.{all-append}
 use Rattle.nichols_field.specs.Field.{FieldValue, IsField, IsElement, residue}
 use Rattle.nichols_field.proofs.FieldLaws.{residue_is_element}
 use Rattle.nichols_braid.specs.Faults.{letter_of, row_letters, rows_letters, rows_residues, put_first, put_before, rack_table, GivenScalars, constant, table, cocycle_table}
 use Rattle.nichols_braid.specs.Tables.{IsRackTable, IsCocycleTable}
-
-pub all-append : {X : Type 0} (P : X → Type 0) (xs ys : List X) → AllByRecursion P xs → AllByRecursion P ys → AllByRecursion P (xs ++ ys)
-all-append P [] ys h k = k
-all-append P (x ∷ xs) ys h k = (h.0, all-append P xs ys h.1 k)
 
 letter_is : (n : ℕ) (v : ℤ) (a : ℕ) → letter_of n v ≡ Some a → IsLetterOf n a
 letter_is n (pos v) a e = at (nat_le 1 v) (nat_le v n) refl refl e

@@ -8,13 +8,13 @@ use Rattle.nichols_tensor.specs.Words.{up_to}
 use Rattle.nichols_tensor.proofs.Entries.{each_of, of_each}
 use Rattle.nichols_tensor.proofs.Values.{value_at-append, value_at-scaled, is_zero_sound, is_zero_complete}
 use Rattle.nichols_tensor.proofs.Linear.{same_images, extended-append, extended-scaled, extended_is_zero}
+use Rattle.nichols_tensor.proofs.Letters.{in_up_to, from_up_to}
 use Rattle.nichols_braid.specs.Braid.{BraidValue, IsLetter, IsRack, act, scalar}
 use Rattle.nichols_braid.specs.Derivation.{derived_word, derived}
 use Rattle.nichols_braid.specs.Symmetrizer.{lifts, symmetrized}
 use Rattle.nichols_braid.specs.Kernel.{IsKilled, IsInKernel, is_killed, is_in_kernel}
 use Rattle.nichols_braid.specs.RightProduct.{times_letter}
 use Rattle.nichols_braid.specs.LinearTest.{IsLinearTest}
-use Rattle.nichols_braid.proofs.Letters.{in_up_to, from_up_to}
 use Rattle.nichols_braid.proofs.Maps.{times_letter_is_zero}
 use Rattle.nichols_braid.proofs.Rule.{derived-times_letter}
 

@@ -7,13 +7,11 @@ pub mod Made
 pub mod Lists
 pub mod Maps
 pub mod Rule
-pub mod Letters
 pub mod Killed
 pub mod BraidLaws
 pub mod Rearranged
 pub mod Counts
 pub mod Permutations
-pub mod WordLists
 pub mod Degrees
 pub mod Prefixes
 pub mod Congruences
@@ -26,5 +24,4 @@ pub mod Agreement
 pub mod Spanning
 pub mod Rows
 pub mod LeastLaws
-pub mod Functionals
 pub mod FirstDegree

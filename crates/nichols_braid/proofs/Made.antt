@@ -3,9 +3,9 @@ use Rattle.std.proofs.Common.{◌≡◌, ℕ, Bool, true, false, cond, List, len
 use Rattle.std.specs.Prelude.{Option, Result, ℤ}
 use Rattle.std.specs.Option.{option_or}
 use Rattle.nichols_field.specs.Field.{FieldValue, IsField}
-use Rattle.nichols_braid.specs.Braid.{BraidValue, IsBraid}
-use Rattle.nichols_braid.specs.Tables.{RackEntries, IsRackTable, IsCocycleTable, with_scalars}
-use Rattle.nichols_braid.proofs.Accepted.{accepted}
+use Rattle.nichols_braid.specs.Braid.{IsBraid}
+use Rattle.nichols_braid.specs.Tables.{RackEntries, IsRackTable, with_scalars}
+use Rattle.nichols_braid.proofs.Accepted.{accepted, braid_with}
 use Rattle.nichols_braid.proofs.Entries.{residues_are_table}
 use Rattle.nichols_braid.specs.Faults.{rack_fault, is_cocycle, braid_of, with_rack, with_cocycle, unless_fault, rack_table, cocycle_table, GivenScalars}
 use Rattle.nichols_braid.specs.declared.faults.BraidFault.{BraidFault}
@@ -42,9 +42,6 @@ rack_is k rows s n rack h bijective distributive =
 
 pub without_cocycle : (k : FieldValue) (rows : List (List ℤ)) (s : GivenScalars) (n : ℕ) (rack : List ℕ) → HasRack rows n rack → rack_fault n rack Bijective ≡ None → rack_fault n rack Distributive ≡ None → cocycle_table k n s ≡ None → braid_of k rows s ≡ Err Unbuilt
 without_cocycle k rows s n rack h b d e = rack_is k rows s n rack h b d ∙ ap (with_cocycle k n rack) e
-
-abbrev braid_with : FieldValue → ℕ → List ℕ → List ℕ → BraidValue
-braid_with k n rack cocycle = record { field = k; letters = n; rack = rack; cocycle = cocycle }
 
 pub lawless : (k : FieldValue) (rows : List (List ℤ)) (s : GivenScalars) (n : ℕ) (rack cocycle : List ℕ) → HasRack rows n rack → rack_fault n rack Bijective ≡ None → rack_fault n rack Distributive ≡ None → cocycle_table k n s ≡ Some cocycle → is_cocycle (braid_with k n rack cocycle) ≡ false → braid_of k rows s ≡ Err Unbuilt
 lawless k rows s n rack cocycle h b d e broken =

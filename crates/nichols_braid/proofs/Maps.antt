@@ -2,10 +2,10 @@
 use Rattle.std.proofs.Common.{◌≡◌, ℕ, Bool, true, false, cond, List, [], ◌∷◌, ◌++◌, map, refl, sym, ◌∙◌, ap}
 use Rattle.std.specs.List.{AllByRecursion}
 use Rattle.std.proofs.lemmas.List.{map-append}
-use Rattle.nichols_field.specs.Field.{FieldValue, IsField, IsElement, plus, times}
+use Rattle.nichols_field.specs.Field.{FieldValue, IsField, IsElement, plus, times, negative}
 use Rattle.nichols_field.proofs.FieldLaws.{plus_comm, plus_zero, times_plus, times_comm, times_zero, plus_is_element, zero_is_element}
 use Rattle.nichols_field.proofs.FieldAlgebra.{one_times, swap_middle, swap_factors}
-use Rattle.nichols_tensor.specs.Combination.{Combination, value_at, HasSameValues, IsZero, single, scaled, extended, same_letters}
+use Rattle.nichols_tensor.specs.Combination.{Combination, value_at, HasSameValues, IsZero, single, scaled, extended, same_letters, minus}
 use Rattle.nichols_tensor.proofs.Values.{value_is_element, value_at-append, value_at-scaled, weight, value_at-extended}
 use Rattle.nichols_tensor.proofs.Linear.{extended-append, extended-scaled, extended_is_zero, same_images, same_append}
 use Rattle.nichols_braid.specs.RightProduct.{times_letter}
@@ -133,3 +133,6 @@ times_letter-append f g b = map-append (λ t. record { word = t.word ++ b ∷ []
 pub times_letter-scaled : (k : FieldValue) (c : ℕ) (f : Combination) (b : ℕ) → times_letter (scaled k c f) b ≡ scaled k c (times_letter f b)
 times_letter-scaled k c [] b = refl
 times_letter-scaled k c (t ∷ f) b = ap (λ r. record { word = t.word ++ b ∷ []; coefficient = times k c t.coefficient } ∷ r) (times_letter-scaled k c f b)
+
+pub times_letter-minus : (k : FieldValue) (f g : Combination) (b : ℕ) → times_letter (minus k f g) b ≡ minus k (times_letter f b) (times_letter g b)
+times_letter-minus k f g b = times_letter-append f (scaled k (negative k 1) g) b ∙ ap (λ h. times_letter f b ++ h) (times_letter-scaled k (negative k 1) g b)

@@ -98,11 +98,6 @@ class_of_form vanishes braid is m l f g df of dg og e =
     congruent_trans k is (vanishes braid m) l f (normal_form vanishes braid m g) g (subst (AreCongruent k (vanishes braid m) f) e p.congruent)
     (congruent_sym k is (vanishes braid m) l g (normal_form vanishes braid m g) q.congruent)
 
--- combinations with the same values have one normal form
-pub form_of_values : (vanishes : Vanishing) (braid : BraidValue) → IsField braid.field → (m : ℕ) → IsLinearTest braid.field (vanishes braid m) → (f g : Combination) →
-    HasSameValues braid.field f g → normal_form vanishes braid m f ≡ normal_form vanishes braid m g
-form_of_values vanishes braid is m l f g same = form_of_class vanishes braid is m l f g (congruent_same braid.field is (vanishes braid m) l f g same)
-
 -- ---- zero, and least words
 
 nothing_is_normal : (vanishes : Vanishing) (braid : BraidValue) → IsField braid.field → (m : ℕ) → IsLinearTest braid.field (vanishes braid m) → (f : Combination) → vanishes braid m f ≡ true → IsNormalForm vanishes braid m f []

@@ -13,10 +13,11 @@ use Rattle.nichols_tensor.specs.Combination.{same_letters}
 use Rattle.nichols_tensor.specs.Words.{up_to, IsLetterOf}
 use Rattle.nichols_tensor.proofs.Entries.{in_map, from_map, in_flat_map, from_flat_map, in_from_contains, contains_from_in}
 use Rattle.nichols_tensor.proofs.Values.{same_itself}
+use Rattle.nichols_tensor.proofs.Tests.{all_of_entries}
+use Rattle.nichols_tensor.proofs.Letters.{in_up_to, from_up_to}
 use Rattle.nichols_braid.specs.Symmetrizer.{permutations}
 use Rattle.nichols_braid.specs.Rearrangement.{IsRearrangement, HoldsEachOnce}
-use Rattle.nichols_braid.proofs.Lists.{first_is_in, all_from_in}
-use Rattle.nichols_braid.proofs.Letters.{in_up_to, from_up_to}
+use Rattle.nichols_braid.proofs.Lists.{first_is_in}
 use Rattle.nichols_braid.proofs.Rearranged.{rearranged_length, rearranged_bounds, up_to_distinct}
 use Rattle.nichols_braid.proofs.Counts.{in_front_and_rest, rearranged_tails}
 
@@ -161,7 +162,7 @@ permutations_distinct (suc m) =
 
 pub permutations_hold_each_once : (m : ℕ) → HoldsEachOnce m (permutations m)
 permutations_hold_each_once m = record {
-  rearrangements = All-from_recursion (IsRearrangement m) (permutations m) (all_from_in (IsRearrangement m) (permutations m) (listed_is_rearrangement m));
+  rearrangements = All-from_recursion (IsRearrangement m) (permutations m) (all_of_entries (IsRearrangement m) (permutations m) (listed_is_rearrangement m));
   each = λ ends h. contains_from_in (permutations m) ends (rearrangement_is_listed m ends h);
   once = permutations_distinct m;
 }

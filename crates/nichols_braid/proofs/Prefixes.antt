@@ -3,126 +3,71 @@ use Rattle.std.proofs.Common.{◌≡◌, ℕ, zero, suc, ◌≤◌, true, false,
 use Rattle.std.specs.List.{list_any, AllByRecursion}
 use Rattle.std.proofs.lemmas.Bool.{cases_lt, cases_Bool}
 use Rattle.std.proofs.lemmas.List.{append-nil}
-use Rattle.nichols_field.specs.Field.{FieldValue, IsField, negative}
+use Rattle.nichols_field.specs.Field.{FieldValue, IsField}
 use Rattle.nichols_tensor.specs.Members.{IsIn}
-use Rattle.nichols_tensor.specs.Combination.{Combination, AllAmong, single, scaled, minus}
-use Rattle.nichols_tensor.specs.Words.{up_to, IsLetterOf, IsWordOver, IsOver, HasDegree, words, words_before, combinations}
-use Rattle.nichols_tensor.proofs.Entries.{in_map, in_flat_map, from_flat_map, from_map, in_filter, from_filter, any_of, some_of}
-use Rattle.nichols_tensor.proofs.Linear.{same_append, same_scaled}
-use Rattle.nichols_tensor.proofs.Enumeration.{enumerated, enumerated_words}
+use Rattle.nichols_tensor.specs.Combination.{Combination, AllAmong, single, minus}
+use Rattle.nichols_tensor.specs.Words.{up_to, IsLetterOf, IsWordOver, words_before}
+use Rattle.nichols_tensor.proofs.Entries.{in_map, in_flat_map, from_flat_map}
+use Rattle.nichols_tensor.proofs.Letters.{in_up_to}
+use Rattle.nichols_tensor.proofs.AllWords.{in_words_before, from_words_before, push_less}
+use Rattle.nichols_tensor.proofs.Pushed.{pushed_length, pushed_over, over_pushed, last_letter}
+use Rattle.nichols_tensor.proofs.Over.{word_over_front}
 use Rattle.nichols_braid.specs.Braid.{BraidValue, IsLetter, IsRack}
 use Rattle.nichols_braid.specs.Kernel.{Vanishing, is_killed}
-use Rattle.nichols_braid.specs.Least.{are_congruent, is_least, basis, candidates}
+use Rattle.nichols_braid.specs.Least.{is_least, basis, candidates}
 use Rattle.nichols_braid.specs.RightProduct.{times_letter}
 use Rattle.nichols_braid.specs.IdealTest.{IsIdealTest}
 use Rattle.nichols_braid.proofs.Degrees.{minus_degree, minus_over}
 use Rattle.nichols_braid.proofs.Killed.{killed-times_letter, is_killed_sound, is_killed_complete, is_killed_is_linear}
-use Rattle.nichols_braid.proofs.Letters.{in_up_to, from_up_to}
-use Rattle.nichols_braid.proofs.Maps.{times_letter-scaled}
-use Rattle.nichols_braid.proofs.WordLists.{in_words, from_words, in_before, IsBefore, from_before, pushed_length, pushed_over, over_pushed, last_letter, pushed_less, words_from_list}
+use Rattle.nichols_braid.proofs.Maps.{times_letter-minus}
+use Rattle.nichols_braid.proofs.LeastWords.{least_refutes, least_unless, earlier_from_among}
+use Rattle.nichols_braid.proofs.Reduction.{in_basis, from_basis}
+use Rattle.nichols_braid.specs.LeastLaws.{IsOfEarlierWords}
 
 -- ---- a prefix of a least word
 
-pushed_minus : (k : FieldValue) (u : List ℕ) (g : Combination) (b : ℕ) → times_letter (minus k (single u) g) b ≡ minus k (single (u ++ b ∷ [])) (times_letter g b)
-pushed_minus k u g b = ap (λ r. record { word = u ++ b ∷ []; coefficient = 1 } ∷ r) (times_letter-scaled k (negative k 1) g b)
-
-pushed_among : (n : ℕ) (u : List ℕ) (b : ℕ) → IsLetterOf n b → (g : Combination) → AllByRecursion (λ t. IsBefore n t.word u) g → AllAmong (times_letter g b) (words_before n (u ++ b ∷ []))
+pushed_among : (n : ℕ) (u : List ℕ) (b : ℕ) → IsLetterOf n b → (g : Combination) → AllAmong g (words_before n u) → AllAmong (times_letter g b) (words_before n (u ++ b ∷ []))
 unfolding AllAmong
 pushed_among n u b l [] h = tt
-pushed_among n u b l (t ∷ g) h = (
-  in_before n (t.word ++ b ∷ []) (u ++ b ∷ []) (pushed_length t.word b ∙ ap suc (h.0.size) ∙ sym (pushed_length u b)) (pushed_over n t.word b (h.0.over) l) (pushed_less t.word u b b (h.0.size) (h.0.less)),
-  pushed_among n u b l g h.1,
-)
-
--- a combination of the words before that a word is congruent to makes the word not least
-pub not_least : (braid : BraidValue) → IsField braid.field → (vanishes : Vanishing) → IsIdealTest braid (vanishes braid) → (w : List ℕ) (f : Combination) → AllAmong f (words_before braid.letters w) →
-    vanishes braid (length w) (minus braid.field (single w) f) ≡ true → is_least vanishes braid w ≡ false
-unfolding is_least are_congruent
-not_least braid is vanishes ideal w f among h =
-    let k : FieldValue = braid.field in
-    let (g, i, same) = enumerated k is f (words_before braid.letters w) among in
-    let there : vanishes braid (length w) (minus k (single w) g) ≡ true =
-    (ideal.linear (length w)).sees_values (minus k (single w) f) (minus k (single w) g)
-    (same_append k is (single w) (scaled k (negative k 1) f) (single w) (scaled k (negative k 1) g) (λ v. refl) (same_scaled k is (negative k 1) f g (λ v. sym (same v)))) h in
-    ap not (any_of (λ g. vanishes braid (length w) (minus k (single w) g)) g (combinations k (words_before braid.letters w)) i there)
-
--- and where there is none it is least
-pub least_unless : (braid : BraidValue) (vanishes : Vanishing) (w : List ℕ) →
-    ((g : Combination) → IsIn g (combinations braid.field (words_before braid.letters w)) → vanishes braid (length w) (minus braid.field (single w) g) ≡ true → ⊥) → is_least vanishes braid w ≡ true
-unfolding is_least are_congruent
-least_unless braid vanishes w h = at (cases_Bool (list_any (λ g. vanishes braid (length w) (minus braid.field (single w) g)) (combinations braid.field (words_before braid.letters w))))
-  where
-    at : (list_any (λ g. vanishes braid (length w) (minus braid.field (single w) g)) (combinations braid.field (words_before braid.letters w)) ≡ true)
-        ⊎ (list_any (λ g. vanishes braid (length w) (minus braid.field (single w) g)) (combinations braid.field (words_before braid.letters w)) ≡ false) →
-        not (list_any (λ g. vanishes braid (length w) (minus braid.field (single w) g)) (combinations braid.field (words_before braid.letters w))) ≡ true
-    at (inl some) = let (g, i, e) = some_of (λ g. vanishes braid (length w) (minus braid.field (single w) g)) (combinations braid.field (words_before braid.letters w)) some in absurd (h g i e)
-    at (inr none) = ap not none
+pushed_among n u b l (t ∷ g) h =
+    let (size, over, less) = from_words_before n t.word u h.0 in
+    (in_words_before n (t.word ++ b ∷ []) (u ++ b ∷ []) (pushed_length t.word b ∙ ap suc size ∙ sym (pushed_length u b)) (pushed_over n t.word b over l) (push_less t.word u b b size less), pushed_among n u b l g h.1)
 
 shorter_is_least : (braid : BraidValue) → IsField braid.field → (vanishes : Vanishing) → IsIdealTest braid (vanishes braid) → (u : List ℕ) (b : ℕ) → IsWordOver braid.letters u → IsLetter braid b →
     is_least vanishes braid (u ++ b ∷ []) ≡ true → is_least vanishes braid u ≡ true
 shorter_is_least braid is vanishes ideal u b over letter least =
-    least_unless braid vanishes u (λ g i h.
+    least_unless vanishes braid u (λ g among elements h.
     let k : FieldValue = braid.field in
-    let n : ℕ = braid.letters in
-    let before : AllByRecursion (λ t. IsBefore n t.word u) g = words_from_list (λ w. IsBefore n w u) g (words_before n u) (enumerated_words k (words_before n u) g i) (λ w j. from_before n w u j) in
-    let degree : HasDegree (length u) g = words_from_list (λ w. length w ≡ length u) g (words_before n u) (enumerated_words k (words_before n u) g i) (λ w j. (from_before n w u j).size) in
-    let letters : IsOver n g = words_from_list (IsWordOver n) g (words_before n u) (enumerated_words k (words_before n u) g i) (λ w j. (from_before n w u j).over) in
+    let earlier : IsOfEarlierWords braid u g = earlier_from_among braid u g among in
     let pushed : vanishes braid (suc (length u)) (times_letter (minus k (single u) g) b) ≡ true =
-    ideal.right (length u) (minus k (single u) g) b (minus_degree k (length u) (single u) g (refl, tt) degree) (minus_over k n (single u) g (over, tt) letters) letter h in
-    let no : is_least vanishes braid (u ++ b ∷ []) ≡ false =
-    not_least braid is vanishes ideal (u ++ b ∷ []) (times_letter g b) (pushed_among n u b letter g before)
-    (ap (λ m. vanishes braid m (minus k (single (u ++ b ∷ [])) (times_letter g b))) (pushed_length u b) ∙ ap (vanishes braid (suc (length u))) (sym (pushed_minus k u g b)) ∙ pushed) in
-    let clash : true ≡ false = sym least ∙ no in cc)
+    ideal.right (length u) (minus k (single u) g) b (minus_degree k (length u) (single u) g (refl, tt) earlier.degree) (minus_over k braid.letters (single u) g (over, tt) earlier.over) letter h in
+    least_refutes vanishes braid is (u ++ b ∷ []) (ideal.linear (length (u ++ b ∷ []))) least (times_letter g b) (pushed_among braid.letters u b letter g among)
+    (ap (λ m. vanishes braid m (minus k (single (u ++ b ∷ [])) (times_letter g b))) (pushed_length u b) ∙ ap (vanishes braid (suc (length u))) (sym (times_letter-minus k (single u) g b)) ∙ pushed))
 
 pub prefix_is_least : (braid : BraidValue) → IsField braid.field → (vanishes : Vanishing) → IsIdealTest braid (vanishes braid) → (u v : List ℕ) → IsWordOver braid.letters (u ++ v) → is_least vanishes braid (u ++ v) ≡ true → is_least vanishes braid u ≡ true
 prefix_is_least braid is vanishes ideal u [] over least = ap (is_least vanishes braid) (sym (append-nil u)) ∙ least
 prefix_is_least braid is vanishes ideal u (b ∷ v) over least =
     let e : (u ++ b ∷ []) ++ v ≡ u ++ b ∷ v = append_assoc u (b ∷ []) v in
     let longer : is_least vanishes braid (u ++ b ∷ []) ≡ true = prefix_is_least braid is vanishes ideal (u ++ b ∷ []) v (subst (IsWordOver braid.letters) (sym e) over) (ap (is_least vanishes braid) e ∙ least) in
-    let parts : IsWordOver braid.letters u × IsLetter braid b = over_pushed braid.letters u b (front_over braid.letters (u ++ b ∷ []) v (subst (IsWordOver braid.letters) (sym e) over)) in
+    let parts : IsWordOver braid.letters u × IsLetter braid b = over_pushed braid.letters u b (word_over_front braid.letters (u ++ b ∷ []) v (subst (IsWordOver braid.letters) (sym e) over)) in
     shorter_is_least braid is vanishes ideal u b parts.0 parts.1 longer
-  where
-    front_over : (n : ℕ) (w v : List ℕ) → IsWordOver n (w ++ v) → IsWordOver n w
-    front_over n [] v h = tt
-    front_over n (x ∷ w) v h = (h.0, front_over n w v h.1)
 
 -- ---- least words are candidates
-
-pub from_basis : (braid : BraidValue) (vanishes : Vanishing) (m : ℕ) (w : List ℕ) → IsIn w (basis vanishes braid m) → (length w ≡ m) × IsWordOver braid.letters w × (is_least vanishes braid w ≡ true)
-unfolding basis
-from_basis braid vanishes m w h =
-    let both : IsIn w (words braid.letters m) × (is_least vanishes braid w ≡ true) = from_filter (is_least vanishes braid) w (words braid.letters m) h in
-    let word : (length w ≡ m) × IsWordOver braid.letters w = from_words braid.letters m w both.0 in
-    (word.0, word.1, both.1)
-
-pub in_basis : (braid : BraidValue) (vanishes : Vanishing) (m : ℕ) (w : List ℕ) → length w ≡ m → IsWordOver braid.letters w → is_least vanishes braid w ≡ true → IsIn w (basis vanishes braid m)
-unfolding basis
-in_basis braid vanishes m w size over least = in_filter (is_least vanishes braid) w (words braid.letters m) (in_words braid.letters m w size over) least
 
 pub basis_word_is_candidate : (braid : BraidValue) → IsField braid.field → (vanishes : Vanishing) → IsIdealTest braid (vanishes braid) → (m : ℕ) (w : List ℕ) → IsIn w (basis vanishes braid m) → IsIn w (candidates vanishes braid m)
 unfolding candidates IsIn
 basis_word_is_candidate braid is vanishes ideal zero [] h = inl refl
-basis_word_is_candidate braid is vanishes ideal zero (x ∷ w) h = absurd (let f = from_basis braid vanishes 0 (x ∷ w) h in let e : suc (length w) ≡ 0 = f.0 in omega arith)
-basis_word_is_candidate braid is vanishes ideal (suc m) [] h = absurd (let f = from_basis braid vanishes (suc m) [] h in let e : 0 ≡ suc m = f.0 in omega arith)
+basis_word_is_candidate braid is vanishes ideal zero (x ∷ w) h = absurd (let f = from_basis vanishes braid 0 (x ∷ w) h in let e : suc (length w) ≡ 0 = f.0 in omega arith)
+basis_word_is_candidate braid is vanishes ideal (suc m) [] h = absurd (let f = from_basis vanishes braid (suc m) [] h in let e : 0 ≡ suc m = f.0 in omega arith)
 basis_word_is_candidate braid is vanishes ideal (suc m) (x ∷ w) h =
-    let (size, over, least) = from_basis braid vanishes (suc m) (x ∷ w) h in
+    let (size, over, least) = from_basis vanishes braid (suc m) (x ∷ w) h in
     let (u, b, e) = last_letter x w in
     let parts : IsWordOver braid.letters u × IsLetter braid b = over_pushed braid.letters u b (subst (IsWordOver braid.letters) e over) in
     let count : suc (length u) ≡ suc m = sym (pushed_length u b) ∙ ap length (sym e) ∙ size in
     let before : is_least vanishes braid u ≡ true = prefix_is_least braid is vanishes ideal u (b ∷ []) (subst (IsWordOver braid.letters) e over) (ap (is_least vanishes braid) (sym e) ∙ least) in
     subst (λ v. IsIn v (candidates vanishes braid (suc m))) (sym e)
-    (in_flat_map (λ u. map (λ b. u ++ b ∷ []) (up_to braid.letters)) u (basis vanishes braid m) (u ++ b ∷ []) (in_basis braid vanishes m u (omega arith) parts.0 before)
+    (in_flat_map (λ u. map (λ b. u ++ b ∷ []) (up_to braid.letters)) u (basis vanishes braid m) (u ++ b ∷ []) (in_basis vanishes braid m u (omega arith) parts.0 before)
     (in_map (λ b. u ++ b ∷ []) b (up_to braid.letters) (in_up_to braid.letters b parts.1)))
-
-pub from_candidates : (braid : BraidValue) (vanishes : Vanishing) (m : ℕ) (w : List ℕ) → IsIn w (candidates vanishes braid m) → (length w ≡ m) × IsWordOver braid.letters w
-unfolding candidates IsIn
-from_candidates braid vanishes zero w (inl e) = subst (λ v. (length v ≡ 0) × IsWordOver braid.letters v) (sym e) (refl, tt)
-from_candidates braid vanishes zero w (inr h) = absurd h
-from_candidates braid vanishes (suc m) w h =
-    let (u, i, k) = from_flat_map (λ u. map (λ b. u ++ b ∷ []) (up_to braid.letters)) w (basis vanishes braid m) h in
-    let (b, j, e) = from_map (λ b. u ++ b ∷ []) w (up_to braid.letters) k in
-    let (size, over, least) = from_basis braid vanishes m u i in
-    subst (λ v. (length v ≡ suc m) × IsWordOver braid.letters v) (sym e) (pushed_length u b ∙ ap suc size, pushed_over braid.letters u b over (from_up_to braid.letters b j))
 
 -- ---- after an empty degree
 

@@ -6,6 +6,7 @@ use Rattle.std.proofs.lemmas.List.Elements.{All-nil, All-push, All-weaker}
 use Rattle.std.proofs.lemmas.List.Sorted.{length_permutation, All-permutation}
 use Rattle.std.proofs.lemmas.Map.Keys.{IsDistinct-IsPermutation}
 use Rattle.nichols_tensor.specs.Words.{up_to}
+use Rattle.nichols_tensor.proofs.Letters.{up_to_length}
 use Rattle.nichols_braid.specs.Rearrangement.{IsRearrangement}
 
 -- so many numbers from i on
@@ -20,13 +21,6 @@ consecutive-push i (suc n) = ap (λ r. i ∷ r) (consecutive-push (suc i) n ∙ 
 pub up_to_is_consecutive : (n : ℕ) → up_to n ≡ consecutive 1 n
 up_to_is_consecutive zero = refl
 up_to_is_consecutive (suc n) = ap (λ r. r ++ suc n ∷ []) (up_to_is_consecutive n) ∙ ap (λ j. consecutive 1 n ++ j ∷ []) (let e : suc n ≡ 1 + n = omega arith in e) ∙ sym (consecutive-push 1 n)
-
-pub up_to_length : (n : ℕ) → length (up_to n) ≡ n
-up_to_length n = ap length (up_to_is_consecutive n) ∙ counted 1 n
-  where
-    counted : (i n : ℕ) → length (consecutive i n) ≡ n
-    counted i zero = refl
-    counted i (suc n) = ap suc (counted (suc i) n)
 
 pub up_to_bounds : (n : ℕ) → All (λ a. (1 ≤ a) × (a ≤ n)) (up_to n)
 up_to_bounds zero = All-nil (λ a. (1 ≤ a) × (a ≤ 0))

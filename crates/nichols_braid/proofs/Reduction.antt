@@ -93,12 +93,6 @@ reduced_word vanishes braid is m l w i = by_earlier (words braid.letters m) (IsR
             reduced_weaker braid.field (vanishes braid m) (λ v. IsIn v (basis vanishes braid m) × (word_cmp v w ≡ Less)) (λ v. IsIn v (basis vanishes braid m) × IsUpTo w v) (single w) (λ v p. (p.0, inr p.1))
             (reduced_before_from vanishes braid is m l (λ v. IsIn v (basis vanishes braid m)) w from.0 least earlier)
 
--- and a word that isn't least to one of least words before it
-pub reduced_before : (vanishes : Vanishing) (braid : BraidValue) → IsField braid.field → (m : ℕ) → IsLinearTest braid.field (vanishes braid m) → (w : List ℕ) → length w ≡ m → is_least vanishes braid w ≡ false →
-    IsReduced braid.field (vanishes braid m) (λ v. IsIn v (basis vanishes braid m) × (word_cmp v w ≡ Less)) (single w)
-reduced_before vanishes braid is m l w e least =
-    reduced_before_from vanishes braid is m l (λ v. IsIn v (basis vanishes braid m)) w e least (λ v i less. reduced_word vanishes braid is m l v i)
-
 -- ---- combinations
 
 pub reduced_to_basis : (vanishes : Vanishing) (braid : BraidValue) → IsField braid.field → (m : ℕ) → IsLinearTest braid.field (vanishes braid m) → (f : Combination) → AllAmong f (words braid.letters m) →

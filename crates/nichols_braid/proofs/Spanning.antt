@@ -3,25 +3,25 @@
 use Rattle.std.proofs.Common.{◌≡◌, ℕ, zero, suc, ◌+◌, true, false, List, [], ◌∷◌, ◌++◌, length, refl, sym, ◌∙◌, ap, subst, arith, inl, inr, length-append}
 use Rattle.std.specs.List.{AllByRecursion}
 use Rattle.std.specs.declared.cmp.Ordering.TheVariants.{Less}
-use Rattle.nichols_field.specs.Field.{FieldValue, IsField, negative}
+use Rattle.nichols_field.specs.Field.{IsField}
 use Rattle.nichols_tensor.specs.Members.{IsIn}
-use Rattle.nichols_tensor.specs.Combination.{Combination, AllAmong, single, scaled, minus}
-use Rattle.nichols_tensor.specs.Words.{IsWordOver, IsOver, HasDegree, words, words_before}
+use Rattle.nichols_tensor.specs.Combination.{Combination, AllAmong, single, minus}
+use Rattle.nichols_tensor.specs.Words.{IsWordOver, IsOver, HasDegree, words_before}
 use Rattle.nichols_tensor.specs.WordOrder.{word_cmp, IsRising}
 use Rattle.nichols_tensor.proofs.Entries.{in_filter, from_filter}
 use Rattle.nichols_tensor.proofs.Ordered.{is_in_or_not}
 use Rattle.nichols_tensor.proofs.Over.{word_over_front, word_over_back}
 use Rattle.nichols_tensor.proofs.Rising.{rising-filter, rising_unique}
-use Rattle.nichols_tensor.proofs.AllWords.{in_words, from_words, words_rise, in_words_before, push_less}
+use Rattle.nichols_tensor.proofs.AllWords.{in_words, from_words, in_words_before, push_less}
 use Rattle.nichols_braid.specs.Braid.{BraidValue, IsLetter}
 use Rattle.nichols_braid.specs.Kernel.{Vanishing}
 use Rattle.nichols_braid.specs.Least.{is_least, basis, candidates}
 use Rattle.nichols_braid.specs.RightProduct.{times_letter}
 use Rattle.nichols_braid.specs.LinearTest.{IsLinearTest}
 use Rattle.nichols_braid.specs.IdealTest.{IsIdealTest}
-use Rattle.nichols_braid.proofs.Maps.{times_letter-append, times_letter-scaled}
+use Rattle.nichols_braid.proofs.Maps.{times_letter-minus}
 use Rattle.nichols_braid.proofs.Degrees.{minus_degree, minus_over}
-use Rattle.nichols_braid.proofs.Congruences.{IsReduced, reduced_of_each, reduced_weaker, reduced_itself}
+use Rattle.nichols_braid.proofs.Congruences.{IsReduced, reduced_itself}
 use Rattle.nichols_braid.proofs.LeastWords.{least_refutes_at}
 use Rattle.nichols_braid.proofs.Reduction.{IsUpTo, in_basis, from_basis, basis_rises, reduced_word, reduced_before_from}
 use Rattle.nichols_braid.proofs.Candidates.{in_candidates, from_candidates, candidates_rise, candidates_first, least_of}
@@ -36,31 +36,12 @@ pub record IsSpanning (vanishes : Vanishing) (braid : BraidValue) (m : ℕ) (ws 
 
 -- ---- such lists
 
-pub words_span : (vanishes : Vanishing) (braid : BraidValue) → IsField braid.field → (m : ℕ) → IsLinearTest braid.field (vanishes braid m) → IsSpanning vanishes braid m (words braid.letters m)
-words_span vanishes braid is m l = record {
-  rising = words_rise braid.letters m;
-  degree = λ w i. (from_words braid.letters m w i).0;
-  over = λ w i. (from_words braid.letters m w i).1;
-  spans = λ v e o. reduced_itself braid.field is (vanishes braid m) l (λ u. IsIn u (words braid.letters m) × IsUpTo v u) v (in_words braid.letters m v e o, inl refl);
-}
-
-pub basis_spans : (vanishes : Vanishing) (braid : BraidValue) → IsField braid.field → (m : ℕ) → IsLinearTest braid.field (vanishes braid m) → IsSpanning vanishes braid m (basis vanishes braid m)
-basis_spans vanishes braid is m l = record {
-  rising = basis_rises vanishes braid m;
-  degree = λ w i. (from_basis vanishes braid m w i).0;
-  over = λ w i. (from_basis vanishes braid m w i).1;
-  spans = λ v e o. reduced_word vanishes braid is m l v (in_words braid.letters m v e o);
-}
-
 -- a word that isn't empty is a word with a letter behind
 pub split_last : (m : ℕ) (v : List ℕ) → length v ≡ suc m → (u : List ℕ) × (b : ℕ) × (v ≡ u ++ b ∷ [])
 split_last m [] e = absurd (omega arith)
 split_last m (a ∷ []) e = ([], a, refl)
 split_last zero (a ∷ c ∷ v) e = absurd (omega arith)
 split_last (suc m) (a ∷ c ∷ v) e = let (u, b, d) = split_last m (c ∷ v) (omega arith) in (a ∷ u, b, ap (λ x. a ∷ x) d)
-
-times_letter-minus : (k : FieldValue) (f g : Combination) (b : ℕ) → times_letter (minus k f g) b ≡ minus k (times_letter f b) (times_letter g b)
-times_letter-minus k f g b = times_letter-append f (scaled k (negative k 1) g) b ∙ ap (λ h. times_letter f b ++ h) (times_letter-scaled k (negative k 1) g b)
 
 with_letter : (vanishes : Vanishing) (braid : BraidValue) → IsIdealTest braid (vanishes braid) → (m : ℕ) (u : List ℕ) (b : ℕ) → length u ≡ m → IsWordOver braid.letters u → IsLetter braid b →
     IsReduced braid.field (vanishes braid m) (λ v. IsIn v (basis vanishes braid m) × IsUpTo u v) (single u) →
@@ -149,17 +130,3 @@ pub reduced_to_earlier_entries : (vanishes : Vanishing) (braid : BraidValue) →
     (w : List ℕ) → length w ≡ m → is_least vanishes braid w ≡ false → IsReduced braid.field (vanishes braid m) (λ v. IsIn v ws × (word_cmp v w ≡ Less)) (single w)
 reduced_to_earlier_entries vanishes braid is m l ws s w e least =
     reduced_before_from vanishes braid is m l (λ v. IsIn v ws) w e least (λ v i less. s.spans v (from_words braid.letters m v i).0 (from_words braid.letters m v i).1)
-
--- each combination of words of m letters is congruent to one of entries
-pub reduced_to_entries : (vanishes : Vanishing) (braid : BraidValue) → IsField braid.field → (m : ℕ) → IsLinearTest braid.field (vanishes braid m) → (ws : List (List ℕ)) → IsSpanning vanishes braid m ws →
-    (f : Combination) → AllAmong f (words braid.letters m) → IsReduced braid.field (vanishes braid m) (λ v. IsIn v ws) f
-unfolding AllAmong
-reduced_to_entries vanishes braid is m l ws s f among = reduced_of_each braid.field is (vanishes braid m) l (λ v. IsIn v ws) f (each f among)
-  where
-    each : (f : Combination) → AllAmong f (words braid.letters m) → AllByRecursion (λ t. IsReduced braid.field (vanishes braid m) (λ v. IsIn v ws) (single t.word)) f
-    each [] h = tt
-    each (t ∷ f) h = (
-      reduced_weaker braid.field (vanishes braid m) (λ v. IsIn v ws × IsUpTo t.word v) (λ v. IsIn v ws) (single t.word) (λ v p. p.0)
-          (s.spans t.word (from_words braid.letters m t.word h.0).0 (from_words braid.letters m t.word h.0).1),
-      each f h.1,
-    )

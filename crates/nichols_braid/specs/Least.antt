@@ -1,9 +1,9 @@
 -- Least words, bases, normal forms, candidates and relations. Each is read in a test of which combinations are zero in the
 -- algebra: that of the quantum symmetrizer, or that of the skew derivations.
 use Rattle.std.specs.Prelude.{ℕ, zero, suc, Bool, not, List, [], ◌∷◌, ◌++◌, map, filter, find, length, unwrap_or}
-use Rattle.std.specs.List.{flat_map, list_any}
+use Rattle.std.specs.List.{list_any}
 use Rattle.nichols_tensor.specs.Combination.{Combination, single, minus, without_zeros}
-use Rattle.nichols_tensor.specs.Words.{up_to, words, words_before, combinations}
+use Rattle.nichols_tensor.specs.Words.{with_letters, words, words_before, combinations}
 use Rattle.nichols_tensor.specs.Relation.{PlainRelation}
 use Rattle.nichols_braid.specs.Braid.{BraidValue}
 use Rattle.nichols_braid.specs.Kernel.{Vanishing}
@@ -29,7 +29,7 @@ normal_form vanishes braid m f =
 -- the least words of the degree before, each with a letter behind; in degree 0 the empty word
 unfoldable pub candidates : Vanishing → BraidValue → ℕ → List (List ℕ)
 candidates vanishes braid zero = [] ∷ []
-candidates vanishes braid (suc m) = flat_map (λ u. map (λ b. u ++ b ∷ []) (up_to braid.letters)) (basis vanishes braid m)
+candidates vanishes braid (suc m) = with_letters braid.letters (basis vanishes braid m)
 
 -- the relations of degree m, with rising candidates
 unfoldable pub relations : Vanishing → BraidValue → ℕ → List PlainRelation

@@ -2,7 +2,7 @@
 use Rattle.std.proofs.Common.{◌≡◌, ℕ, zero, suc, ◌+◌, ◌<◌, ◌≤◌, Bool, true, false, true≢false, cond, eqb, not, ◌&&◌, ◌||◌, List, [], ◌∷◌, length, refl, sym, ap, ◌∙◌, subst, eq-eqb, ne_eqb, lt-ltb, arith}
 use Rattle.std.specs.Prelude.{Option, Some, None}
 use Rattle.std.specs.List.{position, position_or_len, count_by}
-use Rattle.std.proofs.lemmas.Bool.{eqb-true}
+use Rattle.std.proofs.lemmas.Bool.{eqb-true, and_from, not-true}
 use Rattle.std.proofs.lemmas.List.Quantifiers.{position-Some}
 use mathlib.Core.Logic.{dite}
 use native.Mathlib.Decide.{ℕ_discrete, dec_le}
@@ -15,12 +15,9 @@ use Rattle.nichols_core.specs.Layout.{LayoutValue, IsLayout, edge_at, edge_into,
 use Rattle.nichols_core.specs.Machine.{Machine, none_picked, all_picked, all_laid, some_edge, by_edge, is_held_by, is_resumed_by, is_published, can, effect, after, ask, pick, lay, publish, release}
 use Rattle.nichols_core.specs.Laws.{AllPicked, NonePicked, AllLaid}
 use Rattle.nichols_core.specs.Conditions.{IsInto, IsOutOf, Allows, EdgesByLetter, ConditionsAreFacts}
-use Rattle.nichols_core.proofs.Stages.{and_left, and_right, not_true, true_every, held_by, resumed_by, published}
+use Rattle.nichols_core.proofs.Stages.{and_left, and_right, true_every, held_by, resumed_by, published}
 use Rattle.nichols_core.proofs.Sorted.{count_two}
 use Rattle.nichols_core.proofs.Events.{all_picked_true, all_laid_true, none_picked_true}
-
-both : (x y : Bool) → x ≡ true → y ≡ true → (x && y) ≡ true
-both x y p q = ap (λ t. t && y) p ∙ q
 
 -- the first that passes is no later than one that does
 first_le : (p : Edge → Bool) (es : List Edge) (k : ℕ) → k < length es → p (edge_at es k) ≡ true → position_or_len p es ≤ k
@@ -46,13 +43,13 @@ found_once p es k inside passes once =
 into_found : (l : LayoutValue) → IsLayout l → (b a k : ℕ) → IsInto l.edges b a k → edge_into l.edges b a ≡ Some k
 into_found l rules b a k at =
     found_once (enters b a) l.edges k at.inside
-    (both (eqb (edge_at l.edges k).upper b) (eqb (edge_at l.edges k).letter a) (eq-eqb (edge_at l.edges k).upper b at.upper) (eq-eqb (edge_at l.edges k).letter a at.letter))
+    (and_from (eqb (edge_at l.edges k).upper b) (eqb (edge_at l.edges k).letter a) (eq-eqb (edge_at l.edges k).upper b at.upper) (eq-eqb (edge_at l.edges k).letter a at.letter))
     (rules.good.one_into b a)
 
 out_found : (l : LayoutValue) → IsLayout l → (b a k : ℕ) → IsOutOf l.edges b a k → edge_out l.edges b a ≡ Some k
 out_found l rules b a k at =
     found_once (leaves b a) l.edges k at.inside
-    (both (eqb (edge_at l.edges k).lower b) (eqb (edge_at l.edges k).letter a) (eq-eqb (edge_at l.edges k).lower b at.lower) (eq-eqb (edge_at l.edges k).letter a at.letter))
+    (and_from (eqb (edge_at l.edges k).lower b) (eqb (edge_at l.edges k).letter a) (eq-eqb (edge_at l.edges k).lower b at.lower) (eq-eqb (edge_at l.edges k).letter a at.letter))
     (rules.good.one_out b a)
 
 pub edges_by_letter : EdgesByLetter
@@ -139,7 +136,7 @@ module _ (l : LayoutValue) (rules : IsLayout l) (m : Machine) where
             into_is l.edges b a at.0 at.1.0,
             published (m.stage (edge_at l.edges at.0).lower) (and_left low (m.laid at.0) first),
             and_right low (m.laid at.0) first,
-            not_true (m.picked at.0) (and_right (low && m.laid at.0) (not (m.picked at.0)) at.1.1),
+            not-true (m.picked at.0) (and_right (low && m.laid at.0) (not (m.picked at.0)) at.1.1),
           ),
         ),
       )
@@ -150,7 +147,7 @@ module _ (l : LayoutValue) (rules : IsLayout l) (m : Machine) where
       let at = some_found (edge_out l.edges b a) test (and_right full (some_edge (edge_out l.edges b a) test) h) in (
         held_by w (m.stage b) (and_left (is_held_by w (m.stage b)) (all_picked l.edges m.picked b) first),
         all_picked_true l.edges m b (and_right (is_held_by w (m.stage b)) (all_picked l.edges m.picked b) first),
-        (at.0, (out_is l.edges b a at.0 at.1.0, not_true (m.laid at.0) at.1.1)),
+        (at.0, (out_is l.edges b a at.0 at.1.0, not-true (m.laid at.0) at.1.1)),
       )
   allowed (Publish w b) h =
       let full = is_held_by w (m.stage b) && all_picked l.edges m.picked b in
@@ -166,25 +163,25 @@ module _ (l : LayoutValue) (rules : IsLayout l) (m : Machine) where
   possible (Take w b) h = refl
   possible (Ask w b a) h =
       let found = some_edge (edge_into l.edges b a) (λ k. true) in
-      both (is_held_by w (m.stage b) && found) (none_picked l.edges m.picked b)
-      (both (is_held_by w (m.stage b)) found (true_held w (m.stage b) h.0) (found_some (edge_into l.edges b a) (λ k. true) h.1.0 (into_found l rules b a h.1.0 h.1.1) refl))
+      and_from (is_held_by w (m.stage b) && found) (none_picked l.edges m.picked b)
+      (and_from (is_held_by w (m.stage b)) found (true_held w (m.stage b) h.0) (found_some (edge_into l.edges b a) (λ k. true) h.1.0 (into_found l rules b a h.1.0 h.1.1) refl))
       (true_none_picked l.edges m b h.2)
   possible (Pick w b a) h =
       let test : ℕ → Bool = λ k. is_published (m.stage (edge_at l.edges k).lower) && m.laid k && not (m.picked k) in
       let k = h.1.0 in
       let low = is_published (m.stage (edge_at l.edges k).lower) in
-      both (is_held_by w (m.stage b)) (some_edge (edge_into l.edges b a) test) (true_held w (m.stage b) h.0)
+      and_from (is_held_by w (m.stage b)) (some_edge (edge_into l.edges b a) test) (true_held w (m.stage b) h.0)
       (found_some (edge_into l.edges b a) test k (into_found l rules b a k h.1.1.0)
-      (both (low && m.laid k) (not (m.picked k)) (both low (m.laid k) (ap is_published h.1.1.1) h.1.1.2) (ap not h.1.1.3)))
+      (and_from (low && m.laid k) (not (m.picked k)) (and_from low (m.laid k) (ap is_published h.1.1.1) h.1.1.2) (ap not h.1.1.3)))
   possible (Lay w b a) h =
       let test : ℕ → Bool = λ k. not (m.laid k) in
       let k = h.2.0 in
-      both (is_held_by w (m.stage b) && all_picked l.edges m.picked b) (some_edge (edge_out l.edges b a) test)
-      (both (is_held_by w (m.stage b)) (all_picked l.edges m.picked b) (true_held w (m.stage b) h.0) (true_all_picked l.edges m b h.1))
+      and_from (is_held_by w (m.stage b) && all_picked l.edges m.picked b) (some_edge (edge_out l.edges b a) test)
+      (and_from (is_held_by w (m.stage b)) (all_picked l.edges m.picked b) (true_held w (m.stage b) h.0) (true_all_picked l.edges m b h.1))
       (found_some (edge_out l.edges b a) test k (out_found l rules b a k h.2.1.0) (ap not h.2.1.1))
   possible (Publish w b) h =
-      both (is_held_by w (m.stage b) && all_picked l.edges m.picked b) (all_laid l.edges m.laid b)
-      (both (is_held_by w (m.stage b)) (all_picked l.edges m.picked b) (true_held w (m.stage b) h.0) (true_all_picked l.edges m b h.1))
+      and_from (is_held_by w (m.stage b) && all_picked l.edges m.picked b) (all_laid l.edges m.laid b)
+      (and_from (is_held_by w (m.stage b)) (all_picked l.edges m.picked b) (true_held w (m.stage b) h.0) (true_all_picked l.edges m b h.1))
       (true_all_laid l.edges m b h.2)
   possible (Release w b) h = true_resumed w (m.stage b) h
 

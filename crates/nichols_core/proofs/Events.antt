@@ -1,7 +1,7 @@
 -- What the condition of an event says, and that every event keeps the six laws.
 use Rattle.std.proofs.Common.{◌≡◌, ℕ, ◌<◌, Bool, true, false, true≢false, cond, eqb, not, ◌&&◌, ◌||◌, List, length, refl, sym, ap, ◌∙◌, subst, eq-eqb}
 use Rattle.std.specs.Prelude.{Option, Some, None}
-use Rattle.std.proofs.lemmas.Bool.{eqb-true}
+use Rattle.std.proofs.lemmas.Bool.{eqb-true, not-true}
 use Rattle.std.proofs.lemmas.List.Quantifiers.{position-Some}
 use Rattle.nichols_core.specs.declared.layout.Edge.{Edge}
 use Rattle.nichols_core.specs.declared.event.Event.{Event}
@@ -10,7 +10,7 @@ use Rattle.nichols_core.specs.Layout.{edge_at, edge_into, edge_out, enters, leav
 use Rattle.nichols_core.specs.Machine.{Machine, none_picked, all_picked, all_laid, some_edge, by_edge, is_held_by, is_published, can, effect, after, ask, pick, lay}
 use Rattle.nichols_core.specs.Laws.{AllPicked, NonePicked, AllLaid}
 use Rattle.nichols_core.specs.Runs.{EventsKeepLaws}
-use Rattle.nichols_core.proofs.Stages.{and_left, and_right, not_true, every_true, held_by, resumed_by, published}
+use Rattle.nichols_core.proofs.Stages.{and_left, and_right, every_true, held_by, resumed_by, published}
 use Rattle.nichols_core.proofs.LawsKept.{Core, core, whole, take_keeps, ask_keeps, pick_keeps, lay_keeps, publish_keeps, release_keeps}
 
 -- a test of "not this block, or p": where it is this block, p holds
@@ -18,7 +18,7 @@ pub or_true : (a b : ℕ) (p : Bool) → (not (eqb a b) || p) ≡ true → a ≡
 or_true a b p h e = ap (λ t. not t || p) (sym (eq-eqb a b e)) ∙ h
 
 pub nand_true : (a b : ℕ) (p : Bool) → not (eqb a b && p) ≡ true → a ≡ b → p ≡ false
-nand_true a b p h e = not_true p (ap (λ t. not (t && p)) (sym (eq-eqb a b e)) ∙ h)
+nand_true a b p h e = not-true p (ap (λ t. not (t && p)) (sym (eq-eqb a b e)) ∙ h)
 
 -- what the tests over all edges say
 pub all_picked_true : (es : List Edge) (m : Machine) (b : ℕ) → all_picked es m.picked b ≡ true → AllPicked es m b

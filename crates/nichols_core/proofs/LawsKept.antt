@@ -1,5 +1,7 @@
 -- Each event keeps the six laws. Five of them suffice for the induction, and give the sixth.
 use Rattle.std.proofs.Common.{◌≡◌, ◌≢◌, ℕ, ◌<◌, Bool, true, false, true≢false, cond, eqb, ◌&&◌, List, length, refl, sym, ap, ◌∙◌, subst, eq-eqb, ne_eqb}
+use Rattle.std.proofs.lemmas.Bool.{false_from_ne_true}
+use Rattle.std.proofs.Math.Bool.{and-false}
 use mathlib.Core.Logic.{dite}
 use native.Mathlib.Decide.{ℕ_discrete}
 use Rattle.nichols_core.specs.declared.layout.Edge.{Edge}
@@ -27,10 +29,6 @@ core es m laws = record {
   published = laws.published;
 }
 
-false_else : (t : Bool) → (t ≡ true → ⊥) → t ≡ false
-false_else true never = absurd (never refl)
-false_else false never = refl
-
 pub whole : (es : List Edge) (m : Machine) → Core es m → Laws es m
 whole es m laws = record {
   ready = laws.ready;
@@ -38,11 +36,11 @@ whole es m laws = record {
   picked = laws.picked;
   laid = laws.laid;
   published = laws.published;
-  untouched = λ b h. (none b h, λ k inside low. false_else (m.laid k) (λ p. begun_or_waiting (m.stage b) (subst (λ c. IsBegun (m.stage c)) low (laws.laid k inside p).0) h));
+  untouched = λ b h. (none b h, λ k inside low. false_from_ne_true (m.laid k) (λ p. begun_or_waiting (m.stage b) (subst (λ c. IsBegun (m.stage c)) low (laws.laid k inside p).0) h));
 }
   where
     none : (b : ℕ) → IsWaiting (m.stage b) → NonePicked es m b
-    none b h k inside up = false_else (m.picked k) (λ p. begun_or_waiting (m.stage b) (subst (λ c. IsBegun (m.stage c)) up (laws.picked k inside p).2) h)
+    none b h k inside up = false_from_ne_true (m.picked k) (λ p. begun_or_waiting (m.stage b) (subst (λ c. IsBegun (m.stage c)) up (laws.picked k inside p).2) h)
 
 -- the stage of c after a take, in both cases, and back
 stage_take : (m : Machine) (w b c : ℕ) (P Q : Stage → Type 0) → ((s : Stage) → P s → Q s) → ((s : Stage) → P s → Q (taken w s)) → P (m.stage c) → Q ((take w b m).stage c)
@@ -51,16 +49,12 @@ stage_take m w b c P Q else here h = put_is m.stage b (taken w (m.stage b)) c Q 
 stage_was : (m : Machine) (w b c : ℕ) (s : Stage) → ((t : Stage) → taken w t ≡ s → t ≡ s) → (take w b m).stage c ≡ s → m.stage c ≡ s
 stage_was m w b c s back = put_is m.stage b (taken w (m.stage b)) c (λ t. t ≡ s → m.stage c ≡ s) (λ e h. ap m.stage e ∙ back (m.stage b) h) (λ _ h. h)
 
-and_false : (t : Bool) → (t && false) ≡ false
-and_false true = refl
-and_false false = refl
-
 pub take_keeps : (es : List Edge) (m : Machine) (w b : ℕ) → Core es m → Core es (take w b m)
 take_keeps es m w b laws = record {
   ready = λ c is.
       let other : c ≢ b = λ e. taken_ready (m.stage b) w (sym (put_here m.stage b (taken w (m.stage b)) c e) ∙ is) in
       let r = laws.ready c (sym (put_else m.stage b (taken w (m.stage b)) c other) ∙ is) in
-      (r.0, ap (λ t. cond (eqb r.0 w && t) false (m.owes r.0 c)) (ne_eqb c b other) ∙ (ap (λ t. cond t false (m.owes r.0 c)) (and_false (eqb r.0 w)) ∙ r.1));
+      (r.0, ap (λ t. cond (eqb r.0 w && t) false (m.owes r.0 c)) (ne_eqb c b other) ∙ (ap (λ t. cond t false (m.owes r.0 c)) (and-false (eqb r.0 w)) ∙ r.1));
   parked = λ c l is.
       let r = laws.parked c l (stage_was m w b c (Parked l) (λ t. taken_parked t w l) is) in
       (r.0, λ p. r.1 (stage_was m w b l Published (λ t. taken_published t w) p));
@@ -152,7 +146,7 @@ release_keeps es m w b laws was =
     let idle : (s : Stage) → s ≡ Resumed w → IsBegun s → ⊥ = λ s e h. subst IsBegun e h in record {
       ready = λ c. dite (ℕ_discrete c b)
           (λ e _. (w, ap (λ t. cond (eqb w w && t) true (m.owes w c)) (eq-eqb c b e) ∙ ap (λ t. cond (t && true) true (m.owes w c)) (eq-eqb w w refl)))
-          (λ ne is. let r = laws.ready c (sym (put_else m.stage b Ready c ne) ∙ is) in (r.0, ap (λ t. cond (eqb r.0 w && t) true (m.owes r.0 c)) (ne_eqb c b ne) ∙ (ap (λ t. cond t true (m.owes r.0 c)) (and_false (eqb r.0 w)) ∙ r.1)));
+          (λ ne is. let r = laws.ready c (sym (put_else m.stage b Ready c ne) ∙ is) in (r.0, ap (λ t. cond (eqb r.0 w && t) true (m.owes r.0 c)) (ne_eqb c b ne) ∙ (ap (λ t. cond t true (m.owes r.0 c)) (and-false (eqb r.0 w)) ∙ r.1)));
       parked = λ c l. at c (λ t. t ≡ Parked l → HasEdge es l c × ((release w b m).stage l ≢ Published)) (λ _ e. absurd (cc))
           (λ _ e. let r = laws.parked c l e in (r.0, at l (λ t. t ≢ Published) (λ _ e'. cc) (λ _. r.1)));
       picked = λ k inside p. let r = laws.picked k inside p in (
@@ -163,14 +157,3 @@ release_keeps es m w b laws was =
       laid = λ k inside p. let r = laws.laid k inside p in (at (edge_at es k).lower IsBegun (λ i. absurd (idle (m.stage (edge_at es k).lower) (ap m.stage i ∙ was) r.0)) (λ _. r.0), r.1);
       published = λ c. at c (λ t. t ≡ Published → AllPicked es m c × AllLaid es m c) (λ _ e. absurd (cc)) (λ _ e. laws.published c e);
     }
-
--- what is owed may pass from worker to worker, as long as some worker owes what was owed
-pub owed_elsewhere_keeps : (es : List Edge) (m : Machine) (owes : ℕ → ℕ → Bool) → ((w b : ℕ) → m.owes w b ≡ true → (v : ℕ) × (owes v b ≡ true)) → Laws es m → Laws es (record m { owes = owes })
-owed_elsewhere_keeps es m owes still laws = record {
-  ready = λ b is. let r = laws.ready b is in still r.0 b r.1;
-  parked = laws.parked;
-  picked = laws.picked;
-  laid = laws.laid;
-  published = laws.published;
-  untouched = laws.untouched;
-}

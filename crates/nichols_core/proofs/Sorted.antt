@@ -1,6 +1,6 @@
 -- Edges in rising order: how many share a block and a letter.
 use Rattle.std.proofs.Common.{◌≡◌, inl, inr, ℕ, zero, suc, ◌+◌, ◌*◌, ◌<◌, ◌≤◌, Bool, true, false, cond, eqb, ◌&&◌, List, [], ◌∷◌, length, zero-add, refl, sym, ap, ◌∙◌, subst, eq-eqb, arith}
-use Rattle.std.proofs.lemmas.Bool.{eqb-true}
+use Rattle.std.proofs.lemmas.Bool.{eqb-true, false_from_ne_true, and_from}
 use Rattle.std.proofs.lemmas.List.Sums.{get_or-le-sum_by, sum_by-cons}
 use Rattle.std.specs.List.{count_by}
 use Rattle.std.specs.List.Sorted.{IsNonDecreasingBy}
@@ -30,10 +30,6 @@ count_zero p (e ∷ es) none =
     let first : p e ≡ false = none 0 (omega arith) in
     count-cons p e es ∙ (ap (λ t. cond t 1 0 + count_by p es) first ∙ (zero-add (count_by p es) ∙ rest))
 
-false_else : (t : Bool) → (t ≡ true → ⊥) → t ≡ false
-false_else true never = absurd (never refl)
-false_else false never = refl
-
 -- a test that edges with different numbers don't both pass counts at most one among edges that rise
 pub count_one : (n : Edge → ℕ) (p : Edge → Bool) → ((e f : Edge) → p e ≡ true → p f ≡ true → n e ≡ n f)
     → (es : List Edge) → ((j k : ℕ) → j < k → k < length es → n (edge_at es j) < n (edge_at es k)) → count_by p es ≤ 1
@@ -42,7 +38,7 @@ count_one n p same (e ∷ es) up = subst (λ c. c ≤ 1) (sym (count-cons p e es
   where
     two : (t : Bool) → p e ≡ t → count_by p es ≤ 1 → cond t 1 0 + count_by p es ≤ 1
     two true is rest =
-        let none : count_by p es ≡ 0 = count_zero p es (λ k inside. false_else (p (edge_at es k)) (λ h. let less = up 0 (suc k) (omega arith) (omega arith) in let equal = same e (edge_at es k) is h in absurd (omega arith))) in
+        let none : count_by p es ≡ 0 = count_zero p es (λ k inside. false_from_ne_true (p (edge_at es k)) (λ h. let less = up 0 (suc k) (omega arith) (omega arith) in let equal = same e (edge_at es k) is h in absurd (omega arith))) in
         omega arith
     two false is rest = omega arith
 
@@ -81,10 +77,7 @@ module _ (block : Edge → ℕ) where
   same_by e f small less equal =
       let blocks : block f ≡ block e = omega arith in
       let letters : f.letter ≡ e.letter = omega arith in
-      (both (eqb (block e) (block e)) (eqb e.letter e.letter) (eq-eqb (block e) (block e) refl) (eq-eqb e.letter e.letter refl), both (eqb (block f) (block e)) (eqb f.letter e.letter) (eq-eqb (block f) (block e) blocks) (eq-eqb f.letter e.letter letters))
-    where
-      both : (a b : Bool) → a ≡ true → b ≡ true → (a && b) ≡ true
-      both a b x y = ap (λ t. t && b) x ∙ y
+      (and_from (eqb (block e) (block e)) (eqb e.letter e.letter) (eq-eqb (block e) (block e) refl) (eq-eqb e.letter e.letter refl), and_from (eqb (block f) (block e)) (eqb f.letter e.letter) (eq-eqb (block f) (block e) blocks) (eq-eqb f.letter e.letter letters))
 
   pub one_each : (es : List Edge) → IsRisingBy place es → (b a : ℕ) → count_by (by b a) es ≤ 1
   one_each es up b a = count_one place (by b a) (by_same b a) es (rising place es up)

@@ -1,11 +1,11 @@
 -- What the events do to single stages, and functions changed at one number.
 use Rattle.std.proofs.Common.{◌≡◌, ◌≢◌, ℕ, zero, suc, ◌<◌, Bool, true, false, true≢false, cond, eqb, not, ◌&&◌, refl, sym, ap, ◌∙◌, subst, eq-eqb, ne_eqb, arith}
-use Rattle.std.proofs.lemmas.Bool.{eqb-true}
+use Rattle.std.proofs.lemmas.Bool.{eqb-true, and_from}
 use mathlib.Core.Logic.{dite}
 use native.Mathlib.Decide.{ℕ_discrete}
 use Rattle.nichols_core.specs.declared.event.Stage.{Stage}
 use Rattle.nichols_core.specs.declared.event.Stage.TheVariants.{Ready, Held, Parked, Resumed, Published}
-use Rattle.nichols_core.specs.Machine.{put, is_held_by, is_parked_on, is_resumed_by, is_published, every, taken, resumed}
+use Rattle.nichols_core.specs.Machine.{put, is_held_by, is_resumed_by, is_published, every, taken, resumed}
 use Rattle.nichols_core.specs.Laws.{IsBegun, IsWaiting}
 
 module _ {A : Type 0} where
@@ -27,10 +27,6 @@ pub and_right : (a b : Bool) → (a && b) ≡ true → b ≡ true
 and_right true b e = e
 and_right false b e = absurd (true≢false (sym e))
 
-pub not_true : (a : Bool) → not a ≡ true → a ≡ false
-not_true true e = absurd (true≢false (sym e))
-not_true false e = refl
-
 -- whether p holds of every number below n, as a fact
 pub every_true : (n : ℕ) (p : ℕ → Bool) → every n p ≡ true → (k : ℕ) → k < n → p k ≡ true
 unfolding every
@@ -43,10 +39,7 @@ every_true (suc n) p e k h =
 pub true_every : (n : ℕ) (p : ℕ → Bool) → ((k : ℕ) → k < n → p k ≡ true) → every n p ≡ true
 unfolding every
 true_every zero p h = refl
-true_every (suc n) p h = both (every n p) (p n) (true_every n p (λ k below. h k (omega arith))) (h n (omega arith))
-  where
-    both : (a b : Bool) → a ≡ true → b ≡ true → (a && b) ≡ true
-    both a b x y = ap (λ t. t && b) x ∙ y
+true_every (suc n) p h = and_from (every n p) (p n) (true_every n p (λ k below. h k (omega arith))) (h n (omega arith))
 
 -- what the tests of a stage say
 pub held_by : (w : ℕ) (s : Stage) → is_held_by w s ≡ true → s ≡ Held w
@@ -62,13 +55,6 @@ resumed_by w (Held v) e = absurd (true≢false (sym e))
 resumed_by w (Parked l) e = absurd (true≢false (sym e))
 resumed_by w (Resumed v) e = ap Resumed (eqb-true v w e)
 resumed_by w Published e = absurd (true≢false (sym e))
-
-pub parked_on : (l : ℕ) (s : Stage) → is_parked_on l s ≡ true → s ≡ Parked l
-parked_on l Ready e = absurd (true≢false (sym e))
-parked_on l (Held v) e = absurd (true≢false (sym e))
-parked_on l (Parked k) e = ap Parked (eqb-true k l e)
-parked_on l (Resumed v) e = absurd (true≢false (sym e))
-parked_on l Published e = absurd (true≢false (sym e))
 
 pub published : (s : Stage) → is_published s ≡ true → s ≡ Published
 published Ready e = absurd (true≢false (sym e))

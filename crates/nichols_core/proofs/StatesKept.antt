@@ -2,9 +2,10 @@
 use Rattle.std.proofs.Common.{◌≡◌, ℕ, zero, suc, ◌+◌, ◌*◌, ◌%◌, ◌<◌, ◌≤◌, Bool, true, false, true≢false, cond, eqb, ltb, not, ◌&&◌, List, length, set, refl, sym, ap, ◌∙◌, subst, eq-eqb, ne_eqb, lt-ltb, arith, length-set, get_or-set_same, get_or-set_other, replicate}
 use Rattle.std.specs.Prelude.{Option, Some}
 use Rattle.std.proofs.lemmas.Nat.{mod-mul-add}
-use Rattle.std.proofs.lemmas.Bool.{le-ltb}
+use Rattle.std.proofs.lemmas.Bool.{le-ltb, and_from}
 use Rattle.std.proofs.lemmas.List.{get_or-replicate, get_or_past, length-replicate}
 use Rattle.std.proofs.Math.Nat.{mul-le-mul_right}
+use Rattle.std.proofs.Math.Bool.{and-false}
 use mathlib.Core.Logic.{dite}
 use native.Mathlib.Decide.{ℕ_discrete, dec_le}
 use Rattle.nichols_core.specs.declared.layout.Edge.{Edge}
@@ -173,14 +174,6 @@ ask_does s w b a k inside found yet =
     (restaged s (set s.stages b (Parked low)) (put m.stage b (Parked low)) (length-set s.stages b (Parked low)) (stage_put s.stages b (Parked low) inside)
     ∙ sym (ap (λ t. cond t m (record m { stage = put m.stage b (Parked low) })) yet))
 
-pub ask_stays : (s : StateValue) (w b a k : ℕ) → edge_into s.layout.edges b a ≡ Some k → is_published (stage_at s.stages (edge_at s.layout.edges k).lower) ≡ true
-    → machine_of s ≡ effect s.layout.edges (Ask w b a) (machine_of s)
-ask_stays s w b a k found is =
-    let low : ℕ = (edge_at s.layout.edges k).lower in
-    let m : Machine = machine_of s in
-    found_does (edge_into s.layout.edges b a) k (λ j. ask b (edge_at s.layout.edges j).lower) m m found
-    (sym (ap (λ t. cond t m (record m { stage = put m.stage b (Parked low) })) is))
-
 pub pick_does : (s : StateValue) (w b a k : ℕ) → k < length s.picked → edge_into s.layout.edges b a ≡ Some k
     → machine_of (record s { picked = set s.picked k true }) ≡ effect s.layout.edges (Pick w b a) (machine_of s)
 pick_does s w b a k inside found =
@@ -214,12 +207,9 @@ pub pick_possible : (es : List Edge) (m : Machine) (w b a k : ℕ) → edge_into
     → is_published (m.stage (edge_at es k).lower) ≡ true → m.laid k ≡ true → m.picked k ≡ false → can es (Pick w b a) m ≡ true
 pick_possible es m w b a k found held is laid picked =
     let test : ℕ → Bool = λ j. is_published (m.stage (edge_at es j).lower) && m.laid j && not (m.picked j) in
-    both (is_held_by w (m.stage b)) (some_edge (edge_into es b a) test) held
+    and_from (is_held_by w (m.stage b)) (some_edge (edge_into es b a) test) held
     (ap (λ at. some_edge at test) found
-    ∙ both (is_published (m.stage (edge_at es k).lower) && m.laid k) (not (m.picked k)) (both (is_published (m.stage (edge_at es k).lower)) (m.laid k) is laid) (ap not picked))
-  where
-    both : (x y : Bool) → x ≡ true → y ≡ true → (x && y) ≡ true
-    both x y p q = ap (λ t. t && y) p ∙ q
+    ∙ and_from (is_published (m.stage (edge_at es k).lower) && m.laid k) (not (m.picked k)) (and_from (is_published (m.stage (edge_at es k).lower)) (m.laid k) is laid) (ap not picked))
 
 stage_start : (n b : ℕ) → stage_at (replicate n Ready) b ≡ cond (ltb b n) Ready Published
 stage_start n b =
@@ -241,11 +231,7 @@ owes_start n zero b = two (ltb b n) (ltb (0 * n + b) n) (ap (λ k. ltb k n) (ome
     two : (t u : Bool) → u ≡ t → (t && u) ≡ t
     two true u e = e
     two false u e = refl
-owes_start n (suc w) b = ap (λ t. ltb b n && t) (le-ltb (suc w * n + b) n (omega arith)) ∙ (and_false (ltb b n) ∙ sym (ap (λ t. t && ltb b n) (ne_eqb (suc w) 0 (λ e. omega arith))))
-  where
-    and_false : (t : Bool) → (t && false) ≡ false
-    and_false true = refl
-    and_false false = refl
+owes_start n (suc w) b = ap (λ t. ltb b n && t) (le-ltb (suc w * n + b) n (omega arith)) ∙ (and-false (ltb b n) ∙ sym (ap (λ t. t && ltb b n) (ne_eqb (suc w) 0 (λ e. omega arith))))
 
 -- the lists of the start
 pub started : (l : LayoutValue) (workers : ℕ) (stages : List Stage) (owed laid picked : List Bool) (n e : ℕ)

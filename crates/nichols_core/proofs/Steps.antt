@@ -1,7 +1,8 @@
 -- What one event does to the stage of one block, and to the marks of one edge.
 use Rattle.std.proofs.Common.{◌≡◌, ◌⊎◌, inl, inr, ℕ, ◌+◌, Bool, true, false, true≢false, cond, eqb, not, ◌&&◌, List, refl, sym, ap, ◌∙◌, subst, arith}
 use Rattle.std.specs.Prelude.{Option, Some, None}
-use Rattle.std.proofs.lemmas.Bool.{eqb-true}
+use Rattle.std.proofs.lemmas.Bool.{eqb-true, not-true}
+use Rattle.std.proofs.Math.Bool.{and-false}
 use Rattle.nichols_core.specs.declared.layout.Edge.{Edge}
 use Rattle.nichols_core.specs.declared.event.Event.{Event}
 use Rattle.nichols_core.specs.declared.event.Event.TheVariants.{Take, Ask, Pick, Lay, Publish, Release}
@@ -11,7 +12,7 @@ use Rattle.nichols_core.specs.Layout.{edge_at, edge_into, edge_out}
 use Rattle.nichols_core.specs.Machine.{Machine, put, none_picked, all_picked, all_laid, some_edge, by_edge, is_held_by, is_parked, is_parked_on, is_resumed, is_published, can, after, taken, ask, pick, lay, resumed, publish, release}
 use Rattle.nichols_core.specs.Laws.{NonePicked}
 use Rattle.nichols_core.specs.Runs.{one_if, publishes, parks, resumes, releases, picks, lays}
-use Rattle.nichols_core.proofs.Stages.{and_left, and_right, not_true, held_by, resumed_by}
+use Rattle.nichols_core.proofs.Stages.{and_left, and_right, held_by, resumed_by}
 use Rattle.nichols_core.proofs.Events.{none_picked_true}
 
 -- the stage of a block before and after an event, and whether the event publishes, parks, resumes or releases it
@@ -22,10 +23,6 @@ pub data Step : Stage → Stage → Bool → Bool → Bool → Bool → Type 0 w
   parking : (w l : ℕ) → Step (Held w) (Parked l) false true false false
   resuming : (w l : ℕ) → Step (Parked l) (Resumed w) false false true false
   releasing : (w : ℕ) → Step (Resumed w) Ready false false false true
-
-and_false : (t : Bool) → (t && false) ≡ false
-and_false true = refl
-and_false false = refl
 
 taken_step : (w : ℕ) (s : Stage) → Step s (taken w s) false false false false
 taken_step w Ready = takes w
@@ -67,13 +64,13 @@ module _ (es : List Edge) (m : Machine) (b : ℕ) where
   there c s is e = ap m.stage (eqb-true b c e) ∙ is
 
   asked_step : (w c l : ℕ) (u : Bool) → m.stage c ≡ Held w → Step (m.stage b) (let n : Machine = cond u m (record m { stage = put m.stage c (Parked l) }) in n.stage b) false (eqb b c && not u) false false
-  asked_step w c l true held = subst (λ q. Step (m.stage b) (m.stage b) false q false false) (sym (and_false (eqb b c))) (stays (m.stage b))
+  asked_step w c l true held = subst (λ q. Step (m.stage b) (m.stage b) false q false false) (sym (and-false (eqb b c))) (stays (m.stage b))
   asked_step w c l false held = park_step w l (eqb b c) (m.stage b) (there c (Held w) held)
 
   ask_step : (w c : ℕ) (at : Option ℕ) (t : Bool) → (t ≡ true → m.stage c ≡ Held w)
       → Step (m.stage b) (let n : Machine = cond t (by_edge at (λ k. ask c (edge_at es k).lower) m) m in n.stage b) false (t && eqb b c && some_edge at (λ k. not (is_published (m.stage (edge_at es k).lower)))) false false
   ask_step w c at false held = stays (m.stage b)
-  ask_step w c None true held = subst (λ q. Step (m.stage b) (m.stage b) false q false false) (sym (and_false (eqb b c))) (stays (m.stage b))
+  ask_step w c None true held = subst (λ q. Step (m.stage b) (m.stage b) false q false false) (sym (and-false (eqb b c))) (stays (m.stage b))
   ask_step w c (Some k) true held = asked_step w c (edge_at es k).lower (is_published (m.stage (edge_at es k).lower)) (held refl)
 
   pick_step : (at : Option ℕ) (t : Bool) → Step (m.stage b) (let n : Machine = cond t (by_edge at pick m) m in n.stage b) false false false false
@@ -212,7 +209,7 @@ module _ (es : List Edge) (m : Machine) (k : ℕ) where
   picked_counted (Pick w b a) =
       let test : ℕ → Bool = λ j. is_published (m.stage (edge_at es j).lower) && m.laid j && not (m.picked j) in
       picked_at (edge_into es b a) (can es (Pick w b a) m) test (λ h. and_right (is_held_by w (m.stage b)) (some_edge (edge_into es b a) test) h)
-      (λ j h. not_true (m.picked j) (and_right (is_published (m.stage (edge_at es j).lower) && m.laid j) (not (m.picked j)) h))
+      (λ j h. not-true (m.picked j) (and_right (is_published (m.stage (edge_at es j).lower) && m.laid j) (not (m.picked j)) h))
   picked_counted (Lay w b a) = same_mark (m.picked k) ((after es (Lay w b a) m).picked k) (lay_picked (edge_out es b a) (can es (Lay w b a) m))
   picked_counted (Publish w b) = same_mark (m.picked k) ((after es (Publish w b) m).picked k) (other_marks (can es (Publish w b) m) (publish w b m) refl refl).0
   picked_counted (Release w b) = same_mark (m.picked k) ((after es (Release w b) m).picked k) (other_marks (can es (Release w b) m) (release w b m) refl refl).0
@@ -224,6 +221,6 @@ module _ (es : List Edge) (m : Machine) (k : ℕ) where
   laid_counted (Lay w b a) =
       let test : ℕ → Bool = λ j. not (m.laid j) in
       laid_at (edge_out es b a) (can es (Lay w b a) m) test
-      (λ h. and_right (is_held_by w (m.stage b) && all_picked es m.picked b) (some_edge (edge_out es b a) test) h) (λ j h. not_true (m.laid j) h)
+      (λ h. and_right (is_held_by w (m.stage b) && all_picked es m.picked b) (some_edge (edge_out es b a) test) h) (λ j h. not-true (m.laid j) h)
   laid_counted (Publish w b) = same_mark (m.laid k) ((after es (Publish w b) m).laid k) (other_marks (can es (Publish w b) m) (publish w b m) refl refl).1
   laid_counted (Release w b) = same_mark (m.laid k) ((after es (Release w b) m).laid k) (other_marks (can es (Release w b) m) (release w b m) refl refl).1

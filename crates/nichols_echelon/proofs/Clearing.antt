@@ -6,7 +6,7 @@ use Rattle.nichols_field.proofs.FieldLaws.{plus_comm, plus_assoc, plus_zero, tim
 use Rattle.nichols_field.proofs.FieldAlgebra.{zero_times, plus_times, swap_middle}
 use Rattle.nichols_echelon.specs.Cells.{Cell, entry}
 use Rattle.nichols_echelon.specs.Combination.{row_at, combined}
-use Rattle.nichols_echelon.specs.Echelon.{Kept, pivot_of, is_filled, cleared_by, cleared}
+use Rattle.nichols_echelon.specs.Echelon.{Kept, pivot_of, cleared_by, cleared}
 use Rattle.nichols_echelon.proofs.Entries.{entry-nil, entry_is_element}
 use Rattle.nichols_echelon.proofs.Combinations.{combined-nil, combined-cons}
 
@@ -123,6 +123,3 @@ put_back k is e cells left others by back same eb is_back h column =
     ∙ plus_assoc k x (times k by y) (times k (negative k by) y)
     ∙ ap (plus k x) (sym (plus_times k by (negative k by) y) ∙ ap (λ m. times k m y) (plus_negative k by is eb) ∙ zero_times k y is)
     ∙ plus_zero k x (entry_is_element k is cells column))
-
-pub some_filled : (cs rest : List Cell) (q : Cell) → cs ≡ q ∷ rest → is_filled cs ≡ true
-some_filled cs rest q e = ap is_filled e

@@ -67,15 +67,6 @@ all_below-without n (c ∷ cells) h =
     without_below n (c.column == n) c (without n cells) (all_below-without n cells h.1)
     (λ e. let there : c.column ≢ n = eqb-false c.column n e in let below : c.column < suc n = h.0 in omega arith)
 
-without_elements : (k : FieldValue) (b : Bool) (c : Cell) (cells : List Cell) → AllElements k cells → IsElement k c.coefficient → AllElements k (cond b cells (c ∷ cells))
-without_elements k true c cells h e = h
-without_elements k false c cells h e = (e, h)
-
-pub all_elements-without : (k : FieldValue) (n : ℕ) (cells : List Cell) → AllElements k cells → AllElements k (without n cells)
-unfolding without
-all_elements-without k n [] h = tt
-all_elements-without k n (c ∷ cells) h = without_elements k (c.column == n) c (without n cells) (all_elements-without k n cells h.1) h.0
-
 -- a cell at the position joins its row's part, any other stays
 split_cell : (k : FieldValue) → IsField k → (rows : List (List Cell)) (m : ℕ) (b : Bool) (c : Cell) (cells : List Cell) (column : ℕ) → (b ≡ true → c.column ≡ m) →
     plus k (times k (cond b c.coefficient 0) (entry k (row_at rows m) column)) (combined k rows (cond b cells (c ∷ cells)) column)

@@ -7,7 +7,7 @@ use Rattle.nichols_field.proofs.FieldLaws.{plus_zero, zero_is_element}
 use Rattle.nichols_field.proofs.FieldAlgebra.{zero_plus, one_times}
 use Rattle.nichols_echelon.specs.Cells.{Cell, entry, IsRow, AllElements, AllBelow, first_coefficient}
 use Rattle.nichols_echelon.specs.Combination.{row_at, combined, IsDependent}
-use Rattle.nichols_echelon.specs.Split.{place_at, AllIndependent, IsPlace, IsSplit}
+use Rattle.nichols_echelon.specs.Split.{place_at, AllIndependent, IsPlace}
 use Rattle.nichols_echelon.specs.Echelon.{Kept, kept_at, nothing_kept, cells_of, is_filled, AllFilled, pivot_of, cleared_by, cleared, IsKept, AreKept, AreMade, IsRemainder}
 use Rattle.nichols_echelon.specs.Settled.{IsNew, IsSpent, IsSettled, Follows}
 use Rattle.nichols_echelon.specs.declared.rows.Place.{Place}
@@ -246,22 +246,6 @@ follows-none k rows = record {
   cleared = λ i h. absurd (omega (arith, h));
   filled = λ i h. absurd (omega (arith, h));
 }
-
-pub follows_all : (k : FieldValue) (rows : List (List Cell)) (kept : List Kept) (places : List Place) → Follows k rows kept places → length kept ≡ length rows → IsSplit k rows places
-follows_all k rows kept places follows all = record { count = follows.count ∙ all; each = λ i h. follows.each i (omega arith) }
-
--- the first coefficient of a row
-pub first_element : (k : FieldValue) (cells : List Cell) (a : ℕ) → first_coefficient cells ≡ Some a → AllElements k cells → IsElement k a
-first_element k [] a e elements = absurd (cc)
-first_element k (c ∷ cells) a e elements = let same : c.coefficient ≡ a = cc in subst (IsElement k) same elements.0
-
-pub first_nonzero : (cells : List Cell) (a : ℕ) → first_coefficient cells ≡ Some a → IsRow cells → a ≢ 0
-first_nonzero [] a e shape = absurd (cc)
-first_nonzero (c ∷ cells) a e shape = let same : c.coefficient ≡ a = cc in λ z. shape.nonzero.0 (same ∙ z)
-
-pub first_missing : (cells : List Cell) → first_coefficient cells ≡ None → cells ≡ []
-first_missing [] e = refl
-first_missing (c ∷ cells) e = absurd (cc)
 
 pub new_kept : (k : FieldValue) → IsField k → (cells steps : List Cell) (a : ℕ) (e : Kept) → first_coefficient cells ≡ Some a → IsRow cells → AllElements k cells →
     e.cells ≡ cells → e.steps ≡ steps → IsElement k e.factor → times k a e.factor ≡ negative k 1 → IsNew k cells steps e

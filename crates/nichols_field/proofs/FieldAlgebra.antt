@@ -1,7 +1,7 @@
 -- What follows from the laws of the field, by equational steps alone.
 use Rattle.std.proofs.Common.{◌≡◌, ◌≢◌, ℕ, Bool, true, false, cond, refl, sym, ◌∙◌, ap}
 use Rattle.nichols_field.specs.Field.{FieldValue, IsField, IsElement, plus, times, negative}
-use Rattle.nichols_field.proofs.FieldLaws.{plus_comm, plus_assoc, times_comm, times_assoc, times_plus, plus_zero, times_one, times_zero, zero_is_element, times_is_element, plus_negative, opposite_sum, has_reciprocal}
+use Rattle.nichols_field.proofs.FieldLaws.{plus_comm, plus_assoc, times_comm, times_assoc, times_plus, plus_zero, times_one, times_zero, zero_is_element, times_is_element, plus_negative, opposite_sum}
 
 pub zero_plus : (k : FieldValue) (a : ℕ) → IsElement k a → plus k 0 a ≡ a
 zero_plus k a h = plus_comm k 0 a ∙ plus_zero k a h
@@ -28,20 +28,12 @@ swap_middle k a b c d = plus_assoc k a b (plus k c d) ∙ ap (plus k a) (swap_fi
 pub swap_factors : (k : FieldValue) (a b c : ℕ) → times k a (times k b c) ≡ times k b (times k a c)
 swap_factors k a b c = sym (times_assoc k a b c) ∙ ap (λ n. times k n c) (times_comm k a b) ∙ times_assoc k b a c
 
--- (a b) (c d) ≡ (a c) (b d)
-pub swap_middle_factors : (k : FieldValue) (a b c d : ℕ) → times k (times k a b) (times k c d) ≡ times k (times k a c) (times k b d)
-swap_middle_factors k a b c d = times_assoc k a b (times k c d) ∙ ap (times k a) (swap_factors k b c d) ∙ sym (times_assoc k a c (times k b d))
-
 pub negative_plus : (k : FieldValue) (a : ℕ) → IsField k → IsElement k a → plus k (negative k a) a ≡ 0
 negative_plus k a is e = plus_comm k (negative k a) a ∙ plus_negative k a is e
 
 -- (a + b) + -b ≡ a
 pub plus_plus_negative : (k : FieldValue) (a b : ℕ) → IsField k → IsElement k a → IsElement k b → plus k (plus k a b) (negative k b) ≡ a
 plus_plus_negative k a b is ea eb = plus_assoc k a b (negative k b) ∙ ap (plus k a) (plus_negative k b is eb) ∙ plus_zero k a ea
-
--- (a + -b) + b ≡ a
-pub plus_negative_plus : (k : FieldValue) (a b : ℕ) → IsField k → IsElement k a → IsElement k b → plus k (plus k a (negative k b)) b ≡ a
-plus_negative_plus k a b is ea eb = plus_assoc k a (negative k b) b ∙ ap (plus k a) (negative_plus k b is eb) ∙ plus_zero k a ea
 
 -- a + c ≡ b + c says a ≡ b
 pub plus_cancel : (k : FieldValue) (a b c : ℕ) → IsField k → IsElement k a → IsElement k b → IsElement k c → plus k a c ≡ plus k b c → a ≡ b
@@ -61,15 +53,6 @@ pub negative_twice : (k : FieldValue) (a : ℕ) → IsField k → IsElement k a 
 negative_twice k a is ea =
     let n : ℕ = times k (negative k 1) a in
     plus_cancel k (times k (negative k 1) n) a n is (times_is_element k (negative k 1) n is) ea (times_is_element k (negative k 1) a is) (opposite_sum k n is ∙ sym (difference_of_same k a is))
-
--- a b ≡ a c and a not 0 say b ≡ c
-pub times_cancel : (k : FieldValue) (a b c : ℕ) → IsField k → IsElement k a → a ≢ 0 → IsElement k b → IsElement k c → times k a b ≡ times k a c → b ≡ c
-times_cancel k a b c is ea nonzero eb ec h =
-    let r : (i : ℕ) × IsElement k i × (times k a i ≡ 1) = has_reciprocal k a is ea nonzero in
-    sym (back r.0 r.2 b eb) ∙ ap (times k r.0) h ∙ back r.0 r.2 c ec
-  where
-    back : (i : ℕ) → times k a i ≡ 1 → (d : ℕ) → IsElement k d → times k i (times k a d) ≡ d
-    back i e d ed = sym (times_assoc k i a d) ∙ ap (λ n. times k n d) (times_comm k i a ∙ e) ∙ one_times k d ed
 
 -- a choice between a number and 0, multiplied
 pub times_chosen : (k : FieldValue) (b : Bool) (c a : ℕ) → IsField k → times k c (cond b a 0) ≡ cond b (times k c a) 0

@@ -7,7 +7,6 @@ use Rattle.std.proofs.lemmas.List.{nil_from_length}
 use Rattle.nichols_braid.specs.Braid.{BraidValue, IsBraid}
 use Rattle.nichols_braid.specs.Kernel.{is_in_kernel, is_killed}
 use Rattle.nichols_braid.specs.Least.{basis, relations}
-use Rattle.nichols_tensor.specs.Relation.{PlainRelation}
 use Rattle.nichols_braid.specs.End.{dimension, is_empty_degree}
 use Rattle.nichols_braid.proofs.FirstDegree.{basis_first}
 use Rattle.nichols_lift.proofs.Readings.{one_reading}
@@ -15,7 +14,7 @@ use Rattle.nichols_block.specs.Rule.{PlainRule, rule_of}
 use Rattle.nichols_graded.specs.declared.ends.End.{End}
 use Rattle.nichols_graded.specs.declared.ends.End.TheVariants.{Closed, Stopped}
 use Rattle.nichols_graded.specs.declared.ends.Stop.TheVariants.{DegreeLimit}
-use Rattle.nichols_graded.specs.Graded.{GradedValue, AreFilledBelow, end_at, IsGraded, step, advanced}
+use Rattle.nichols_graded.specs.Graded.{GradedValue, end_at, IsGraded, advanced}
 
 pub rule_degree : (braid : BraidValue) (m : ℕ) (rule : PlainRule) → rule ≡ rule_of braid m → rule.degree ≡ m
 unfolding rule_of
@@ -23,11 +22,11 @@ rule_degree braid m rule e = ap (λ r. r.degree) e
 
 pub rule_basis : (braid : BraidValue) → IsBraid braid → (m : ℕ) (rule : PlainRule) → rule ≡ rule_of braid m → rule.basis ≡ basis is_in_kernel braid m
 unfolding rule_of
-rule_basis braid is m rule e = ap (λ r. r.basis) e ∙ sym ((one_reading braid is).same_basis m)
+rule_basis braid is m rule e = ap (λ r. r.basis) e ∙ sym ((one_reading braid is).alike.bases m)
 
 pub rule_relations : (braid : BraidValue) → IsBraid braid → (m : ℕ) (rule : PlainRule) → rule ≡ rule_of braid m → rule.table ≡ relations is_in_kernel braid m
 unfolding rule_of
-rule_relations braid is m rule e = ap (λ r. r.table) e ∙ sym ((one_reading braid is).same_relations m)
+rule_relations braid is m rule e = ap (λ r. r.table) e ∙ sym ((one_reading braid is).alike.relation_lists m)
 
 pub same_rule : (a b : BraidValue) (m : ℕ) (rule : PlainRule) → a ≡ b → rule ≡ rule_of a m → rule ≡ rule_of b rule.degree
 same_rule a b m rule same e = e ∙ ap (λ x. rule_of x m) same ∙ ap (rule_of b) (sym (rule_degree a m rule e))
@@ -38,13 +37,13 @@ next_rule a b m lower rule same l e = e ∙ ap (λ x. rule_of x (suc lower.degre
 -- ---- empty degrees
 
 pub empty_is : (braid : BraidValue) → IsBraid braid → (m : ℕ) → basis is_killed braid m ≡ [] → is_empty_degree is_in_kernel braid m ≡ true
-empty_is braid is m e = (Decides-eqb _ _).1 (ap length ((one_reading braid is).same_basis m ∙ e))
+empty_is braid is m e = (Decides-eqb _ _).1 (ap length ((one_reading braid is).alike.bases m ∙ e))
 
 pub filled_is : (braid : BraidValue) → IsBraid braid → (m : ℕ) → (basis is_killed braid m ≡ [] → ⊥) → is_empty_degree is_in_kernel braid m ≡ false
 filled_is braid is m some = at (is_empty_degree is_in_kernel braid m) refl
   where
     at : (b : Bool) → is_empty_degree is_in_kernel braid m ≡ b → is_empty_degree is_in_kernel braid m ≡ false
-    at true e = absurd (some (nil_from_length (basis is_killed braid m) (ap length (sym ((one_reading braid is).same_basis m)) ∙ (Decides-eqb (dimension is_in_kernel braid m) 0).0 e)))
+    at true e = absurd (some (nil_from_length (basis is_killed braid m) (ap length (sym ((one_reading braid is).alike.bases m)) ∙ (Decides-eqb (dimension is_in_kernel braid m) 0).0 e)))
     at false e = e
 
 pub first_is_filled : (braid : BraidValue) → IsBraid braid → is_empty_degree is_in_kernel braid 0 ≡ false

@@ -5,7 +5,6 @@ use Rattle.nichols_braid.specs.Kernel.{is_in_kernel}
 use Rattle.nichols_braid.specs.End.{is_empty_degree}
 use Rattle.nichols_graded.specs.declared.ends.End.{End}
 use Rattle.nichols_graded.specs.declared.ends.End.TheVariants.{Closed, Stopped}
-use Rattle.nichols_graded.specs.declared.ends.Stop.{Stop}
 use Rattle.nichols_graded.specs.declared.ends.Stop.TheVariants.{DegreeLimit}
 
 -- what contracts see: the braid, the degree limit, the last finished degree, and whether the end was reached

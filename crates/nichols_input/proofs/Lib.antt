@@ -1,4 +1,3 @@
 pub mod Found
 pub mod OnLiterals
-pub mod Prepend
 pub mod WorkedDocuments

@@ -6,10 +6,6 @@ use Rattle.std.proofs.KnownBytes.{Appends-trans, Appends-kept}
 use Rattle.std.specs.Io.KnownBytes.{Keeps, Appends}
 use Rattle.nichols_io.specs.Bytes.{TellsAlike, AppendsProperPrefix}
 
-pub TellsAlike-refl : (a : Option (List ℕ)) → TellsAlike a a
-TellsAlike-refl None = tt
-TellsAlike-refl (Some x) = tt
-
 pub TellsAlike-trans : (a b c : Option (List ℕ)) → TellsAlike a b → TellsAlike b c → TellsAlike a c
 TellsAlike-trans None None c p q = q
 TellsAlike-trans None (Some y) c p q = absurd p

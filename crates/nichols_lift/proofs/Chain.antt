@@ -7,12 +7,12 @@ use Rattle.std.proofs.lemmas.List.Sorted.{All-permutation}
 use Rattle.nichols_field.specs.Field.{FieldValue, IsField, IsElement, times}
 use Rattle.nichols_field.proofs.FieldLaws.{times_assoc, times_one, times_is_element}
 use Rattle.nichols_tensor.specs.Combination.{Term}
+use Rattle.nichols_tensor.proofs.Pushed.{pushed_length}
 use Rattle.nichols_braid.specs.Braid.{BraidValue, act, scalar}
 use Rattle.nichols_braid.specs.Crossing.{cross, cross_scalar, crossed}
 use Rattle.nichols_braid.specs.Lift.{exchanged, IsDescentAt, IsSorted, IsDescending}
 use Rattle.nichols_braid.specs.Derivation.{scalars_met}
 use Rattle.nichols_braid.proofs.Rearranged.{consecutive}
-use Rattle.nichols_braid.proofs.WordLists.{pushed_length}
 use Rattle.nichols_lift.proofs.Reduced.{term}
 use Rattle.nichols_lift.proofs.Step.{exchanged_is_permutation, exchanged_length, cross_length}
 

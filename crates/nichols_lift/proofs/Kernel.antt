@@ -8,13 +8,14 @@ use Rattle.nichols_tensor.specs.Members.{IsIn}
 use Rattle.nichols_tensor.specs.Combination.{Combination, value_at, HasSameValues, single, same_letters}
 use Rattle.nichols_tensor.specs.Words.{up_to, IsOver, HasDegree}
 use Rattle.nichols_tensor.proofs.Values.{value_is_element}
+use Rattle.nichols_tensor.proofs.Letters.{from_up_to}
+use Rattle.nichols_tensor.proofs.Tests.{same_answer}
 use Rattle.nichols_braid.specs.Braid.{BraidValue, IsBraid, IsLetter}
 use Rattle.nichols_braid.specs.Lift.{lift}
 use Rattle.nichols_braid.specs.Symmetrizer.{permutations, lifts, symmetrized}
 use Rattle.nichols_braid.specs.Derivation.{derived}
 use Rattle.nichols_braid.specs.Kernel.{IsInKernel, IsKilled, is_in_kernel, is_killed}
 use Rattle.nichols_braid.specs.RightProduct.{times_letter}
-use Rattle.nichols_braid.proofs.Letters.{from_up_to}
 use Rattle.nichols_braid.proofs.Maps.{extended_same_on, extended_identity, times_letter_is_zero}
 use Rattle.nichols_braid.proofs.Killed.{killed-times_letter, is_killed_sound, is_killed_complete, is_in_kernel_sound, is_in_kernel_complete}
 use Rattle.nichols_lift.proofs.Totals.{total_same, total_zero, one_letter, value_at-flat_map}
@@ -114,16 +115,10 @@ in_kernel_killed braid is (suc m) f degree over h =
     ∙ total_zero braid.field is.field (λ a. value_at braid.field (times_letter (symmetrized braid (derived braid a f)) a) w) (up_to braid.letters)
     (λ a i. times_letter_is_zero braid.field is.field (symmetrized braid (derived braid a f)) a (gone a i) w)
 
-same_tests : (s t : Bool) → (s ≡ true → t ≡ true) → (t ≡ true → s ≡ true) → s ≡ t
-same_tests true true h l = refl
-same_tests true false h l = sym (h refl)
-same_tests false true h l = l refl
-same_tests false false h l = refl
-
 -- the two tests agree
 pub tests_agree : (braid : BraidValue) → IsBraid braid → (m : ℕ) (f : Combination) → HasDegree m f → IsOver braid.letters f → is_in_kernel braid m f ≡ is_killed braid m f
 tests_agree braid is m f degree over =
-    same_tests (is_in_kernel braid m f) (is_killed braid m f)
+    same_answer (is_in_kernel braid m f) (is_killed braid m f)
     (λ h. is_killed_complete braid m f (killed_in_kernel braid is m f degree over (is_in_kernel_sound braid is.field m f h)))
     (λ h. is_in_kernel_complete braid m f (in_kernel_killed braid is m f degree over (is_killed_sound braid is.field m f h)))
 

@@ -7,7 +7,6 @@ use Rattle.nichols_tensor.specs.Words.{IsWordOver}
 use Rattle.nichols_braid.specs.Braid.{BraidValue, IsBraid, act, scalar}
 use Rattle.nichols_braid.specs.Crossing.{cross, cross_scalar, crossed}
 use Rattle.nichols_braid.specs.Lift.{exchanged, IsDescentAt, IsSorted, IsDescending, first_descent, lift}
-use Rattle.nichols_braid.specs.Rearrangement.{IsRearrangement}
 use Rattle.nichols_lift.specs.ClosedForm.{closed_form}
 use Rattle.nichols_lift.specs.Perm.{IsPerm}
 use Rattle.nichols_lift.proofs.LiftLaws.{reduced_lists_agree}
@@ -129,15 +128,6 @@ following-cross braid perm word list now met k within h now' scalar_met met' now
       letters = letters;
       element = element;
     })
-
-all_dropped : (xs : List ℕ) (k : ℕ) → length xs ≤ k → drop k xs ≡ []
-all_dropped [] zero h = refl
-all_dropped [] (suc k) h = refl
-all_dropped (x ∷ xs) zero h = absurd (omega arith)
-all_dropped (x ∷ xs) (suc k) h = all_dropped xs k (omega arith)
-
-pub following_end : (braid : BraidValue) (perm word list now : List ℕ) (met k : ℕ) → length list ≤ k → IsFollowing braid perm word (drop k list) now met → term now met ≡ lift braid perm word
-following_end braid perm word list now met k end h = ap (λ places. crossed braid places (term now met)) (sym (all_dropped list k end)) ∙ h.leads
 
 -- no descent is left
 pub none_left : (ends : List ℕ) (found : Option ℕ) → found ≡ first_descent ends → ((i : ℕ) → found ≡ Some i → ⊥) → IsSorted ends

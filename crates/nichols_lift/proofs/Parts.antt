@@ -2,13 +2,12 @@
 use Rattle.std.proofs.Common.{◌≡◌, ℕ, zero, suc, ◌≤◌, Bool, true, false, cond, List, [], ◌∷◌, ◌++◌, length, map, refl, sym, ◌∙◌, ap, ap₂, subst, arith, nat_eq, if◌then◌else◌}
 use Rattle.std.specs.List.{AllByRecursion, flat_map}
 use Rattle.nichols_field.specs.Field.{FieldValue, IsField, IsElement, plus, times}
-use Rattle.nichols_field.proofs.FieldLaws.{plus_zero, plus_is_element, zero_is_element, times_is_element, plus_comm}
+use Rattle.nichols_field.proofs.FieldLaws.{plus_zero, plus_is_element, zero_is_element, times_is_element}
 use Rattle.nichols_field.proofs.FieldAlgebra.{zero_plus}
 use Rattle.nichols_tensor.specs.Combination.{Term, Combination, HasSameValues, value_at, same_letters, words_of, single, scaled, extended, AllElements}
 use Rattle.nichols_tensor.specs.WordOrder.{IsOrdered}
 use Rattle.nichols_tensor.specs.Words.{IsWordOver, IsOver, HasDegree, up_to}
-use Rattle.nichols_tensor.proofs.Values.{value_is_element, value_at-append, value_at-extended, same_itself}
-use Rattle.nichols_tensor.proofs.Linear.{same_images}
+use Rattle.nichols_tensor.proofs.Values.{value_is_element, value_at-append}
 use Rattle.nichols_tensor.proofs.Over.{all_of_words, all_among}
 use Rattle.nichols_words.proofs.Sums.{among_same}
 use Rattle.nichols_braid.specs.Braid.{BraidValue, IsBraid, act}
@@ -17,8 +16,8 @@ use Rattle.nichols_braid.specs.Lift.{lift, bubble}
 use Rattle.nichols_braid.specs.Symmetrizer.{permutations, lifts, symmetrized}
 use Rattle.nichols_braid.specs.Derivation.{derived_word, derived, scalars_met}
 use Rattle.nichols_braid.specs.RightProduct.{times_letter}
-use Rattle.nichols_braid.proofs.Maps.{extended_same_on, extended-sum, plus_times_one, times_letter_same, times_letter_is_zero}
-use Rattle.nichols_braid.proofs.Degrees.{AllWords, words-append, words-extended, words-times_letter}
+use Rattle.nichols_braid.proofs.Maps.{extended_same_on, extended-sum, plus_times_one}
+use Rattle.nichols_braid.proofs.Degrees.{AllWords, words-append, words-extended}
 use Rattle.nichols_lift.specs.Lengths.{AllAtMost}
 use Rattle.nichols_lift.proofs.Totals.{total, total_zero, value_at-flat_map}
 use Rattle.nichols_lift.proofs.Step.{cross_length, cross_over}

@@ -13,11 +13,11 @@ use Rattle.nichols_tensor.specs.Words.{up_to, IsLetterOf}
 use Rattle.nichols_tensor.proofs.Entries.{in_either, in_left, in_right, in_from_contains, contains_from_in, any_of, some_of}
 use Rattle.nichols_tensor.proofs.Over.{all_at}
 use Rattle.std.proofs.lemmas.Bool.{cases_lt}
-use Rattle.nichols_tensor.proofs.Letters.{in_up_to, from_up_to}
+use Rattle.nichols_tensor.proofs.Letters.{in_up_to, from_up_to, up_to_length}
 use Rattle.nichols_braid.specs.Rearrangement.{IsRearrangement}
 use Rattle.nichols_braid.specs.Lift.{exchanged, IsDescentAt, first_descent}
 use Rattle.nichols_braid.proofs.Counts.{in_front_and_rest}
-use Rattle.nichols_braid.proofs.Rearranged.{up_to_distinct, up_to_length, rearranged_length}
+use Rattle.nichols_braid.proofs.Rearranged.{up_to_distinct}
 use Rattle.nichols_lift.specs.Perm.{IsPerm, place_limit}
 use Rattle.nichols_lift.specs.InlinePerm.{IsInline, length_kept}
 use Rattle.nichols_lift.proofs.Step.{exchanged_is_permutation, exchanged_length}

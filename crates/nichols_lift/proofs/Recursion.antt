@@ -4,7 +4,7 @@ use Rattle.std.specs.List.{AllByRecursion}
 use Rattle.nichols_field.specs.Field.{FieldValue, IsField, IsElement, plus}
 use Rattle.nichols_field.proofs.FieldLaws.{plus_zero, plus_assoc}
 use Rattle.nichols_tensor.specs.Members.{IsIn}
-use Rattle.nichols_tensor.specs.Combination.{Term, Combination, HasSameValues, value_at, AllElements, IsZero}
+use Rattle.nichols_tensor.specs.Combination.{Combination, HasSameValues, value_at, AllElements, IsZero}
 use Rattle.nichols_tensor.specs.Words.{IsOver, HasDegree, up_to}
 use Rattle.nichols_tensor.proofs.Values.{value_is_element, value_at-append}
 use Rattle.nichols_tensor.proofs.Building.{elements-append}
@@ -16,7 +16,7 @@ use Rattle.nichols_braid.specs.RightProduct.{times_letter}
 use Rattle.nichols_braid.proofs.Maps.{times_letter_same, times_letter_is_zero}
 use Rattle.nichols_words.specs.Word.{word_limit}
 use Rattle.nichols_lift.specs.Lengths.{AllAtMost, symmetrizer_limit}
-use Rattle.nichols_lift.proofs.Totals.{total, total_zero, total_is_element, total-append, alone}
+use Rattle.nichols_lift.proofs.Totals.{total, total_zero, total-append, alone}
 use Rattle.nichols_lift.proofs.Kernel.{symmetrized_0}
 use Rattle.nichols_lift.proofs.Parts.{constant, letter_part, image_is}
 

@@ -6,6 +6,7 @@ use Rattle.nichols_field.proofs.FieldLaws.{times_assoc, times_one, times_is_elem
 use Rattle.nichols_field.proofs.FieldAlgebra.{one_times}
 use Rattle.nichols_tensor.specs.Combination.{Term}
 use Rattle.nichols_tensor.specs.Words.{up_to, IsWordOver}
+use Rattle.nichols_tensor.proofs.Tests.{map_same}
 use Rattle.nichols_braid.specs.Braid.{BraidValue, IsBraid}
 use Rattle.nichols_braid.specs.Crossing.{cross, cross_scalar, crossed}
 use Rattle.nichols_braid.specs.Lift.{exchanged, IsDescending, bubble, lift}
@@ -14,7 +15,6 @@ use Rattle.nichols_lift.specs.ClosedForm.{ended, ended_scalar, letter_at, closed
 use Rattle.nichols_lift.proofs.Acted.{none_placed}
 use Rattle.nichols_lift.proofs.Step.{cross_length, cross_over, exchanged_is_permutation, crossed_letters, crossed_scalars}
 use Rattle.nichols_lift.proofs.Bubble.{bubble_descends}
-use Rattle.nichols_braid.proofs.Lists.{same_map}
 use Rattle.nichols_braid.proofs.Rearranged.{consecutive, up_to_is_consecutive, rearranged_length}
 use Rattle.nichols_lift.proofs.Sorted.{sorted_is_up_to, closed_letters_sorted, closed_scalar_sorted}
 
@@ -35,7 +35,7 @@ at_end braid is ends w e c element =
 
 ending_same : (braid : BraidValue) (m : ℕ) (ends w ends' w' : List ℕ) → ((e : ℕ) → letter_at (ended braid [] ends' w') e ≡ letter_at (ended braid [] ends w) e) → ending braid m ends' w' ≡ ending braid m ends w
 unfolding ending
-ending_same braid m ends w ends' w' h = same_map (letter_at (ended braid [] ends' w')) (letter_at (ended braid [] ends w)) (up_to m) (λ e i. h e)
+ending_same braid m ends w ends' w' h = map_same (letter_at (ended braid [] ends' w')) (letter_at (ended braid [] ends w)) (up_to m) (λ e i. h e)
 
 crossed_to_closed : (braid : BraidValue) → IsBraid braid → (m : ℕ) (places ends w : List ℕ) (c : ℕ) → IsRearrangement m ends → length w ≡ m → IsWordOver braid.letters w → IsElement braid.field c → IsDescending ends places →
     crossed braid places (term w c) ≡ term (ending braid m ends w) (times braid.field c (ended_scalar braid [] ends w))

@@ -3,13 +3,13 @@ use Rattle.std.proofs.Common.{◌≡◌, ℕ, zero, suc, ◌+◌, ◌<◌, ◌�
 use Rattle.std.specs.List.{All, IsDistinct}
 use Rattle.std.proofs.lemmas.Bool.Decides.{nat_tests}
 use Rattle.std.proofs.lemmas.List.Elements.{All-tail, All-head, All-weaker}
+use Rattle.std.proofs.lemmas.Bool.{cond-false}
 use Rattle.nichols_field.specs.Field.{IsField, times}
 use Rattle.nichols_field.proofs.FieldLaws.{one_is_element}
 use Rattle.nichols_field.proofs.FieldAlgebra.{one_times}
 use Rattle.nichols_braid.specs.Braid.{BraidValue}
 use Rattle.nichols_braid.specs.Lift.{IsSorted}
 use Rattle.nichols_braid.specs.Rearrangement.{IsRearrangement}
-use Rattle.nichols_braid.proofs.Lists.{chosen_false}
 use Rattle.nichols_braid.proofs.Rearranged.{consecutive, rearranged_length, rearranged_bounds, rearranged_distinct}
 use Rattle.nichols_lift.specs.ClosedForm.{Placed, acted, acted_scalar, ended, ended_scalar, letter_at}
 use Rattle.nichols_lift.proofs.Acted.{placed}
@@ -83,12 +83,12 @@ not_right e n h = grind (arith, nat_tests)
 unacted : (braid : BraidValue) (n : ℕ) (ps : List Placed) → AllBelow n ps → (x : ℕ) → acted braid ps (suc n) x ≡ x
 unfolding AllBelow
 unacted braid n [] h x = refl
-unacted braid n (p ∷ ps) h x = chosen_false (nat_lt (suc n) p.place) _ _ (not_right (suc n) p.place (omega (arith, h.0))) ∙ unacted braid n ps h.1 x
+unacted braid n (p ∷ ps) h x = cond-false (nat_lt (suc n) p.place) _ _ (not_right (suc n) p.place (omega (arith, h.0))) ∙ unacted braid n ps h.1 x
 
 unmet : (braid : BraidValue) (n : ℕ) (ps : List Placed) → AllBelow n ps → (x : ℕ) → acted_scalar braid ps (suc n) x ≡ 1
 unfolding AllBelow
 unmet braid n [] h x = refl
-unmet braid n (p ∷ ps) h x = chosen_false (nat_lt (suc n) p.place) _ _ (not_right (suc n) p.place (omega (arith, h.0))) ∙ unmet braid n ps h.1 x
+unmet braid n (p ∷ ps) h x = cond-false (nat_lt (suc n) p.place) _ _ (not_right (suc n) p.place (omega (arith, h.0))) ∙ unmet braid n ps h.1 x
 
 -- each letter at its own place
 own : ℕ → List ℕ → List Placed
@@ -120,7 +120,7 @@ own_letters n (x ∷ w) = ap₂ (λ y r. y ∷ r) (first n) (skipped (suc n) (le
 
     skipped : (i k : ℕ) → n < i → map (letter_at (placed n x ∷ own (suc n) w)) (consecutive i k) ≡ map (letter_at (own (suc n) w)) (consecutive i k)
     skipped i zero h = refl
-    skipped i (suc k) h = ap₂ (λ y r. y ∷ r) (chosen_false (nat_eq n i) x (letter_at (own (suc n) w) i) (grind (arith, nat_tests))) (skipped (suc i) k (omega arith))
+    skipped i (suc k) h = ap₂ (λ y r. y ∷ r) (cond-false (nat_eq n i) x (letter_at (own (suc n) w) i) (grind (arith, nat_tests))) (skipped (suc i) k (omega arith))
 
 none_below : (n : ℕ) → AllBelow n []
 unfolding AllBelow

@@ -3,6 +3,7 @@ use Rattle.std.proofs.Common.{◌≡◌, ℕ, zero, suc, ◌<◌, Bool, true, fa
 use Rattle.std.proofs.lemmas.Bool.Decides.{nat_tests}
 use Rattle.std.specs.List.Sorted.{IsPermutation}
 use Rattle.std.proofs.lemmas.List.Sorted.{IsPermutation-cons, IsPermutation-middle}
+use Rattle.std.proofs.lemmas.Bool.{cond-true, cond-false}
 use Rattle.nichols_field.specs.Field.{FieldValue, times}
 use Rattle.nichols_field.proofs.FieldLaws.{times_assoc}
 use Rattle.nichols_field.proofs.FieldAlgebra.{swap_factors}
@@ -10,7 +11,6 @@ use Rattle.nichols_tensor.specs.Words.{IsWordOver}
 use Rattle.nichols_braid.specs.Braid.{BraidValue, act, scalar, IsRack, IsCocycle}
 use Rattle.nichols_braid.specs.Crossing.{cross, cross_scalar}
 use Rattle.nichols_braid.specs.Lift.{exchanged, IsDescentAt}
-use Rattle.nichols_braid.proofs.Lists.{chosen_true, chosen_false}
 use Rattle.nichols_lift.specs.ClosedForm.{Placed, acted, acted_scalar, ended, ended_scalar, letter_at}
 use Rattle.nichols_lift.proofs.Acted.{placed, AllLetters, all_letters, none_placed, ended-crossed, ended_scalar-crossed}
 
@@ -58,17 +58,17 @@ above_is_false a b h = grind (arith, nat_tests)
 
 -- the right letter, which the left one acts on
 right_acted : (braid : BraidValue) (earlier : List Placed) (ea a eb b : ℕ) → eb < ea → acted braid (placed ea a ∷ earlier) eb b ≡ acted braid earlier eb (act braid a b)
-right_acted braid earlier ea a eb b h = chosen_true (nat_lt eb ea) (acted braid earlier eb (act braid a b)) (acted braid earlier eb b) (below_is_true eb ea h)
+right_acted braid earlier ea a eb b h = cond-true (nat_lt eb ea) (acted braid earlier eb (act braid a b)) (acted braid earlier eb b) (below_is_true eb ea h)
 
 right_scalar : (braid : BraidValue) (earlier : List Placed) (ea a eb b : ℕ) → eb < ea → acted_scalar braid (placed ea a ∷ earlier) eb b ≡ times braid.field (scalar braid a b) (acted_scalar braid earlier eb (act braid a b))
-right_scalar braid earlier ea a eb b h = chosen_true (nat_lt eb ea) (times braid.field (scalar braid a b) (acted_scalar braid earlier eb (act braid a b))) (acted_scalar braid earlier eb b) (below_is_true eb ea h)
+right_scalar braid earlier ea a eb b h = cond-true (nat_lt eb ea) (times braid.field (scalar braid a b) (acted_scalar braid earlier eb (act braid a b))) (acted_scalar braid earlier eb b) (below_is_true eb ea h)
 
 -- the left letter, which the right one, crossed, doesn't act on
 left_acted : (braid : BraidValue) (earlier : List Placed) (ea a eb y : ℕ) → eb < ea → acted braid (placed eb y ∷ earlier) ea a ≡ acted braid earlier ea a
-left_acted braid earlier ea a eb y h = chosen_false (nat_lt ea eb) (acted braid earlier ea (act braid y a)) (acted braid earlier ea a) (above_is_false eb ea h)
+left_acted braid earlier ea a eb y h = cond-false (nat_lt ea eb) (acted braid earlier ea (act braid y a)) (acted braid earlier ea a) (above_is_false eb ea h)
 
 left_scalar : (braid : BraidValue) (earlier : List Placed) (ea a eb y : ℕ) → eb < ea → acted_scalar braid (placed eb y ∷ earlier) ea a ≡ acted_scalar braid earlier ea a
-left_scalar braid earlier ea a eb y h = chosen_false (nat_lt ea eb) (times braid.field (scalar braid y a) (acted_scalar braid earlier ea (act braid y a))) (acted_scalar braid earlier ea a) (above_is_false eb ea h)
+left_scalar braid earlier ea a eb y h = cond-false (nat_lt ea eb) (times braid.field (scalar braid y a) (acted_scalar braid earlier ea (act braid y a))) (acted_scalar braid earlier ea a) (above_is_false eb ea h)
 
 not_both : (ea eb e : ℕ) → eb < ea → nat_eq eb e ≡ true → nat_eq ea e ≡ true → ⊥
 not_both ea eb e h t u = grind (arith, nat_tests)

@@ -10,6 +10,7 @@ use Rattle.nichols_field.proofs.FieldAlgebra.{one_times}
 use Rattle.nichols_tensor.specs.Members.{IsIn}
 use Rattle.nichols_tensor.specs.Combination.{Term, Combination, scaled}
 use Rattle.nichols_tensor.specs.Words.{up_to, IsWordOver}
+use Rattle.nichols_tensor.proofs.Pushed.{pushed_length}
 use Rattle.nichols_braid.specs.Braid.{BraidValue, IsBraid, act}
 use Rattle.nichols_braid.specs.Crossing.{crossed}
 use Rattle.nichols_braid.specs.Lift.{IsDescending, bubble, lift}
@@ -20,7 +21,6 @@ use Rattle.nichols_braid.specs.RightProduct.{times_letter}
 use Rattle.nichols_braid.proofs.Lists.{first_is_in, later_is_in, map-map}
 use Rattle.nichols_braid.proofs.Rearranged.{consecutive, up_to_is_consecutive, rearranged_length, rearranged_bounds}
 use Rattle.nichols_braid.proofs.Permutations.{inserted_is_rearrangement, listed_is_rearrangement, insert_between}
-use Rattle.nichols_braid.proofs.WordLists.{pushed_length}
 use Rattle.nichols_lift.proofs.Bubble.{bubble_descends}
 use Rattle.nichols_lift.proofs.Reduced.{term, reduced_list, lift_is_closed}
 use Rattle.nichols_lift.proofs.Chain.{carried, descending_inserted, behind, multiple, crossed_within, crossed-append, crossed_multiple}

@@ -78,10 +78,8 @@ fn put_behind(part: &Comb, letter: u8, terms: &mut Vec<Term>) -> Result<(), Allo
     ensures { OnOk result (terms.new.items ≡ terms.old.items ++ times_letter part.now letter) }
 {
     for term in part.terms() {
-        let mut word = term.word;
-        let _room = word.push(letter);
         terms.push(Term {
-            word,
+            word: term.word.followed_by(letter),
             coefficient: term.coefficient,
         })?;
     }

@@ -11,11 +11,11 @@ use Rattle.nichols_braid.specs.LinearTest.{IsLinearTest}
 use Rattle.nichols_braid.specs.Rows.{made, combined_numbers}
 use Rattle.nichols_braid.proofs.Spanning.{IsSpanning}
 use Rattle.nichols_braid.proofs.Rows.{AreFunctionals, AreNumbersOf, combined_row_is_not_least, uncombined_row_is_least, form_of_combined_row}
-use Rattle.nichols_echelon.specs.Cells.{Cell, entry, AllBelow, AllElements}
-use Rattle.nichols_echelon.specs.Combination.{row_at, combined, IsCombination, IsDependent}
-use Rattle.nichols_echelon.specs.Split.{place_at, IsPlace, IsSplit, IsReduction, AllIndependent}
+use Rattle.nichols_echelon.specs.Cells.{Cell, entry, AllBelow}
+use Rattle.nichols_echelon.specs.Combination.{row_at, combined}
+use Rattle.nichols_echelon.specs.Split.{place_at, IsPlace, IsReduction, AllIndependent}
 use Rattle.nichols_echelon.specs.declared.rows.Place.{Place}
-use Rattle.nichols_echelon.specs.declared.rows.Place.TheVariants.{Independent, Depends}
+use Rattle.nichols_echelon.specs.declared.rows.Place.TheVariants.{Independent}
 
 combined_is : (k : FieldValue) (rows : List (List Cell)) (cells : List Cell) (c : ℕ) → combined k rows cells c ≡ combined_numbers k (λ i. entry k (row_at rows i) c) cells
 unfolding combined combined_numbers

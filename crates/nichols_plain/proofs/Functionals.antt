@@ -6,11 +6,11 @@ use Rattle.std.proofs.lemmas.Bool.Decides.{Decides-eqb}
 use Rattle.nichols_field.specs.Field.{FieldValue, IsField, IsElement, plus, times}
 use Rattle.nichols_field.proofs.FieldLaws.{times_one, times_zero}
 use Rattle.nichols_tensor.specs.Members.{IsIn}
-use Rattle.nichols_tensor.specs.Combination.{Combination, HasSameValues, IsZero, AllElements, AllAmong, value_at, same_letters, words_of, single, scaled, extended}
+use Rattle.nichols_tensor.specs.Combination.{Combination, HasSameValues, IsZero, AllElements, value_at, same_letters, words_of, single}
 use Rattle.nichols_tensor.specs.Words.{IsWordOver, IsOver, HasDegree}
-use Rattle.nichols_tensor.proofs.Values.{weight, weight_is_element, weight-append, weight-scaled, weightless, same_itself}
+use Rattle.nichols_tensor.proofs.Values.{weight, weight_is_element, weightless, same_itself, weight-extended}
 use Rattle.nichols_tensor.proofs.Linear.{same_weights, extended-single}
-use Rattle.nichols_tensor.proofs.Building.{elements-append, elements-scaled}
+use Rattle.nichols_tensor.proofs.Building.{elements-extended}
 use Rattle.nichols_tensor.proofs.Over.{all_at, all_among, all_of_words}
 use Rattle.nichols_tensor.proofs.Ordered.{is_in_or_not, zero_at_others}
 use Rattle.nichols_tensor.proofs.Tests.{same_answer, all_of_entries}
@@ -20,7 +20,7 @@ use Rattle.nichols_braid.specs.Kernel.{is_in_kernel}
 use Rattle.nichols_braid.proofs.Maps.{same_weight_on, everywhere}
 use Rattle.nichols_braid.proofs.Killed.{is_in_kernel_sound, is_in_kernel_complete}
 use Rattle.nichols_braid.proofs.Rows.{AreFunctionals}
-use Rattle.nichols_echelon.specs.Cells.{Cell, entry}
+use Rattle.nichols_echelon.specs.Cells.{entry}
 use Rattle.nichols_lift.proofs.Step.{cross_length, cross_over}
 use Rattle.nichols_lift.proofs.Parts.{symmetrized_words}
 use Rattle.nichols_plain.specs.Columns.{number_of, numbered, image_entry}
@@ -43,18 +43,8 @@ entry_is_weight k is n c (t ∷ f) e = ap₂ (plus k) (chosen_one k is (nat_eq (
 pub entry_of_same : (k : FieldValue) → IsField k → (n c : ℕ) (f g : Combination) → AllElements k f → AllElements k g → HasSameValues k f g → entry k (numbered n f) c ≡ entry k (numbered n g) c
 entry_of_same k is n c f g e h same = entry_is_weight k is n c f e ∙ same_weights k is (at_column n c) f g same ∙ sym (entry_is_weight k is n c g h)
 
-weight-extended : (k : FieldValue) → IsField k → (φ : List ℕ → ℕ) (image : List ℕ → Combination) (f : Combination) → weight k φ (extended k image f) ≡ weight k (λ w. weight k φ (image w)) f
-unfolding weight
-weight-extended k is φ image [] = refl
-weight-extended k is φ image (t ∷ f) =
-    weight-append k is φ (scaled k t.coefficient (image t.word)) (extended k image f) ∙ ap₂ (plus k) (weight-scaled k is φ t.coefficient (image t.word)) (weight-extended k is φ image f)
-
-elements_of_image : (k : FieldValue) → IsField k → (image : List ℕ → Combination) (f : Combination) → AllElements k (extended k image f)
-elements_of_image k is image [] = tt
-elements_of_image k is image (t ∷ f) = elements-append k (scaled k t.coefficient (image t.word)) (extended k image f) (elements-scaled k is t.coefficient (image t.word)) (elements_of_image k is image f)
-
 pub image_elements : (braid : BraidValue) → IsField braid.field → (f : Combination) → AllElements braid.field (symmetrized braid f)
-image_elements braid is f = elements_of_image braid.field is (lifts braid) f
+image_elements braid is f = elements-extended braid.field is (lifts braid) f
 
 image_entry_is : (braid : BraidValue) → IsField braid.field → (c : ℕ) (w : List ℕ) → image_entry braid c w ≡ weight braid.field (at_column braid.letters c) (lifts braid w)
 unfolding image_entry

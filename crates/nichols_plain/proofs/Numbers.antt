@@ -14,7 +14,7 @@ use Rattle.nichols_tensor.specs.Words.{IsLetterOf, IsWordOver, IsOver, HasDegree
 use Rattle.nichols_tensor.specs.WordOrder.{word_cmp, IsBelowFirst, IsRising}
 use Rattle.nichols_tensor.proofs.Order.{same_word, less_back}
 use Rattle.nichols_tensor.proofs.AllWords.{same_length_cmp, number_below, number_same}
-use Rattle.nichols_echelon.specs.Cells.{Cell, columns_of, AllNonzero, IsRow}
+use Rattle.nichols_echelon.specs.Cells.{columns_of, AllNonzero, IsRow}
 use Rattle.nichols_echelon.specs.Cells.{IsBelowFirst as IsColumnBelow, IsRising as AreColumnsRising}
 use Rattle.nichols_tensor.specs.Combination.{AllNonzero as AllTermsNonzero}
 use Rattle.nichols_plain.specs.Columns.{number_behind, number_of, numbered}

@@ -1,16 +1,14 @@
 -- Candidates sorted by the places of their images into least words and relations.
 use Rattle.std.proofs.Common.{◌≡◌, ℕ, zero, suc, ◌+◌, ◌<◌, ◌≤◌, true, false, List, [], ◌∷◌, ◌++◌, length, take, get_or, refl, sym, ◌∙◌, ap, ap₂, subst, arith}
-use Rattle.std.proofs.lemmas.List.{take_more, take_all}
+use Rattle.std.proofs.lemmas.List.{take_more, take_all, get_or_default}
 use Rattle.nichols_tensor.specs.Combination.{Combination, single}
 use Rattle.nichols_tensor.specs.Positions.{word_at}
 use Rattle.nichols_braid.specs.Braid.{BraidValue, IsBraid}
 use Rattle.nichols_braid.specs.Kernel.{is_in_kernel}
 use Rattle.nichols_braid.specs.Least.{is_least, basis, normal_form, candidates, relations}
 use Rattle.nichols_tensor.specs.Relation.{PlainRelation}
-use Rattle.nichols_braid.specs.LinearTest.{IsLinearTest}
-use Rattle.nichols_braid.specs.IdealTest.{IsIdealTest}
 use Rattle.nichols_braid.specs.Rows.{made}
-use Rattle.nichols_braid.proofs.Candidates.{least_of, relations_of, relation_at, relations_are, least_of-least, least_of-other, relations_of-least, relations_of-other}
+use Rattle.nichols_braid.proofs.Candidates.{least_of, relations_of, relations_are, least_of-least, least_of-other, relations_of-least, relations_of-other}
 use Rattle.nichols_braid.proofs.Spanning.{IsSpanning, candidates_span, basis_among}
 use Rattle.nichols_braid.proofs.Rows.{AreFunctionals, below_more}
 use Rattle.nichols_echelon.specs.Cells.{Cell, entry, AllBelow}
@@ -31,11 +29,8 @@ pub record AreSplit (braid : BraidValue) (m : ℕ) (ws : List (List ℕ)) (rows 
   pub entries : (i : ℕ) → i < length ws → (c : ℕ) → entry braid.field (row_at rows i) c ≡ image_entry braid c (word_at ws i)
   pub split : IsSplit braid.field rows places
 
-ideal : (braid : BraidValue) → IsBraid braid → IsIdealTest braid (is_in_kernel braid)
-ideal braid is = is_in_kernel_is_ideal braid is
-
 spanning : (braid : BraidValue) (m : ℕ) (ws : List (List ℕ)) (rows : List (List Cell)) (places : List Place) → AreSplit braid m ws rows places → IsSpanning is_in_kernel braid m ws
-spanning braid m ws rows places s = subst (IsSpanning is_in_kernel braid m) (sym s.words) (candidates_span is_in_kernel braid s.braid_is.field (ideal braid s.braid_is) m)
+spanning braid m ws rows places s = subst (IsSpanning is_in_kernel braid m) (sym s.words) (candidates_span is_in_kernel braid s.braid_is.field (is_in_kernel_is_ideal braid s.braid_is) m)
 
 telling : (braid : BraidValue) (m : ℕ) (ws : List (List ℕ)) (rows : List (List Cell)) (places : List Place) → AreSplit braid m ws rows places → AreFunctionals braid.field (is_in_kernel braid m) ws (image_entry braid)
 telling braid m ws rows places s =
@@ -44,7 +39,7 @@ telling braid m ws rows places s =
 
 least_there : (braid : BraidValue) (m : ℕ) (ws : List (List ℕ)) (rows : List (List Cell)) (places : List Place) → AreSplit braid m ws rows places → (i : ℕ) → i < length ws → place_at places i ≡ Independent → is_least is_in_kernel braid (word_at ws i) ≡ true
 least_there braid m ws rows places s i within e =
-    least_by_place is_in_kernel braid s.braid_is.field m ((ideal braid s.braid_is).linear m) ws (spanning braid m ws rows places s) (image_entry braid) (telling braid m ws rows places s) rows (λ c j less. s.entries j less c) places i within e
+    least_by_place is_in_kernel braid s.braid_is.field m ((is_in_kernel_is_ideal braid s.braid_is).linear m) ws (spanning braid m ws rows places s) (image_entry braid) (telling braid m ws rows places s) rows (λ c j less. s.entries j less c) places i within e
     (subst (IsPlace braid.field rows places i) e (s.split.each i (subst (λ n. i < n) (sym s.count) within)))
 
 reduction_there : (braid : BraidValue) (m : ℕ) (ws : List (List ℕ)) (rows : List (List Cell)) (places : List Place) → AreSplit braid m ws rows places → (i : ℕ) → i < length ws → (cells : List Cell) → place_at places i ≡ Depends cells → IsReduction braid.field rows places i cells
@@ -53,25 +48,20 @@ reduction_there braid m ws rows places s i within cells e = subst (IsPlace braid
 form_there : (braid : BraidValue) (m : ℕ) (ws : List (List ℕ)) (rows : List (List Cell)) (places : List Place) → AreSplit braid m ws rows places → (i : ℕ) → i < length ws → (cells : List Cell) → place_at places i ≡ Depends cells →
     (is_least is_in_kernel braid (word_at ws i) ≡ false) × (normal_form is_in_kernel braid m (single (word_at ws i)) ≡ made ws cells)
 form_there braid m ws rows places s i within cells e =
-    form_by_place is_in_kernel braid s.braid_is.field m ((ideal braid s.braid_is).linear m) ws (spanning braid m ws rows places s) (image_entry braid) (telling braid m ws rows places s) rows (λ c j less. s.entries j less c) places i within
+    form_by_place is_in_kernel braid s.braid_is.field m ((is_in_kernel_is_ideal braid s.braid_is).linear m) ws (spanning braid m ws rows places s) (image_entry braid) (telling braid m ws rows places s) rows (λ c j less. s.entries j less c) places i within
     (λ j less. least_there braid m ws rows places s j (omega arith)) cells (reduction_there braid m ws rows places s i within cells e)
 
 -- ---- as the loop reads them
-
-read_alike : {X : Type 0} (xs : List X) (i : ℕ) (d e : X) → i < length xs → get_or xs i d ≡ get_or xs i e
-read_alike [] i d e less = absurd (omega arith)
-read_alike (x ∷ xs) zero d e less = refl
-read_alike (x ∷ xs) (suc i) d e less = read_alike xs i d e (omega arith)
 
 places_count : (braid : BraidValue) (m : ℕ) (ws : List (List ℕ)) (rows : List (List Cell)) (places : List Place) → AreSplit braid m ws rows places → length places ≡ length ws
 places_count braid m ws rows places s = s.split.count ∙ s.count
 
 place_read : (braid : BraidValue) (m : ℕ) (ws : List (List ℕ)) (rows : List (List Cell)) (places : List Place) → AreSplit braid m ws rows places → (i : ℕ) → i < length ws → (place other : Place) → place ≡ get_or places i place → place ≡ other → place_at places i ≡ other
 place_read braid m ws rows places s i within place other read is =
-    read_alike places i Independent place (subst (λ n. i < n) (sym (places_count braid m ws rows places s)) within) ∙ sym read ∙ is
+    get_or_default places i Independent place (subst (λ n. i < n) (sym (places_count braid m ws rows places s)) within) ∙ sym read ∙ is
 
 word_read : (ws : List (List ℕ)) (i : ℕ) (w : List ℕ) → i < length ws → w ≡ get_or ws i w → word_at ws i ≡ w
-word_read ws i w within read = read_alike ws i [] w within ∙ sym read
+word_read ws i w within read = get_or_default ws i [] w within ∙ sym read
 
 more : (ws : List (List ℕ)) (i : ℕ) (w : List ℕ) → i < length ws → w ≡ get_or ws i w → take (i + 1) ws ≡ take i ws ++ w ∷ []
 more ws i w within read = take_more ws i w within ∙ ap (λ v. take i ws ++ v ∷ []) (sym read)
@@ -111,7 +101,7 @@ sorted-other braid m ws rows places s i within w read place cells place_is is le
 
 pub sorted_basis : (braid : BraidValue) (m : ℕ) (ws : List (List ℕ)) (rows : List (List Cell)) (places : List Place) → AreSplit braid m ws rows places → (i : ℕ) → length ws ≤ i → (least : List (List ℕ)) (others : List PlainRelation) → AreSorted braid m ws i least others → least ≡ basis is_in_kernel braid m
 sorted_basis braid m ws rows places s i end least others h =
-    h.basis ∙ ap (least_of is_in_kernel braid) (take_all i ws end) ∙ sym (basis_among is_in_kernel braid s.braid_is.field m ((ideal braid s.braid_is).linear m) ws (spanning braid m ws rows places s))
+    h.basis ∙ ap (least_of is_in_kernel braid) (take_all i ws end) ∙ sym (basis_among is_in_kernel braid s.braid_is.field m ((is_in_kernel_is_ideal braid s.braid_is).linear m) ws (spanning braid m ws rows places s))
 
 pub sorted_relations : (braid : BraidValue) (m : ℕ) (ws : List (List ℕ)) (rows : List (List Cell)) (places : List Place) → AreSplit braid m ws rows places → (i : ℕ) → length ws ≤ i → (least : List (List ℕ)) (others : List PlainRelation) → AreSorted braid m ws i least others → others ≡ relations is_in_kernel braid m
 sorted_relations braid m ws rows places s i end least others h =

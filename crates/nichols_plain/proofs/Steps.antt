@@ -4,42 +4,29 @@ use Rattle.std.specs.List.{AllByRecursion, flat_map, filter}
 use Rattle.std.proofs.lemmas.List.{take_more, take_all, append-nil, length-append}
 use Rattle.std.proofs.lemmas.Grind.{flat_map-append}
 use Rattle.std.proofs.Math.Nat.{pow-zero, pow-suc, pow-le-pow_right}
-use Rattle.nichols_field.specs.Field.{FieldValue, IsField, IsElement}
+use Rattle.nichols_field.specs.Field.{FieldValue}
 use Rattle.nichols_field.proofs.Primes.{two_bounds}
-use Rattle.nichols_tensor.specs.Combination.{Term, Combination, HasSameValues, AllElements, words_of, single}
+use Rattle.nichols_tensor.specs.Combination.{Combination, HasSameValues, AllElements, single}
 use Rattle.nichols_tensor.specs.Combination.{AllNonzero as AllTermsNonzero}
 use Rattle.nichols_tensor.specs.WordOrder.{IsRising, IsOrdered}
-use Rattle.nichols_tensor.specs.Words.{up_to, words, IsWordOver, IsOver, HasDegree}
+use Rattle.nichols_tensor.specs.Words.{up_to, words, IsWordOver, with_letters}
 use Rattle.nichols_tensor.proofs.Tests.{all_of_entries}
-use Rattle.nichols_tensor.proofs.Linear.{same_images}
+use Rattle.nichols_tensor.proofs.Letters.{up_to_length}
+use Rattle.nichols_tensor.proofs.Pushed.{with_letters_length}
 use Rattle.nichols_braid.specs.Braid.{BraidValue, IsBraid}
-use Rattle.nichols_braid.specs.Kernel.{Vanishing, is_in_kernel}
+use Rattle.nichols_braid.specs.Kernel.{is_in_kernel}
 use Rattle.nichols_braid.specs.Least.{basis, candidates, is_least}
 use Rattle.nichols_braid.specs.Rows.{made}
 use Rattle.nichols_braid.specs.Symmetrizer.{symmetrized}
-use Rattle.nichols_braid.proofs.Candidates.{with_letters, candidates_first, candidates_next, from_candidates, candidates_rise}
+use Rattle.nichols_braid.proofs.Candidates.{candidates_first, candidates_next, from_candidates, candidates_rise}
 use Rattle.nichols_braid.proofs.Reduction.{from_basis}
 use Rattle.nichols_braid.proofs.Rows.{made_rises, made_nonzero}
-use Rattle.nichols_braid.proofs.Rearranged.{up_to_length}
 use Rattle.nichols_words.specs.Word.{word_limit}
 use Rattle.nichols_echelon.specs.Cells.{Cell, entry, AllBelow, IsRow}
 use Rattle.nichols_echelon.specs.Cells.{AllElements as AllCellsElements}
 use Rattle.nichols_lift.specs.Lengths.{symmetrizer_limit}
-use Rattle.nichols_plain.specs.Columns.{HasColumns, number_of, numbered, image_entry}
+use Rattle.nichols_plain.specs.Columns.{HasColumns, numbered, image_entry}
 use Rattle.nichols_plain.proofs.Functionals.{entry_of_same, image_elements}
-
-pub all_index : {X : Type 0} (P : X → Type 0) (xs : List X) (i : ℕ) (d : X) → AllByRecursion P xs → i < length xs → P (get_or xs i d)
-all_index P [] i d h less = absurd (omega arith)
-all_index P (x ∷ xs) zero d h less = h.0
-all_index P (x ∷ xs) (suc i) d h less = all_index P xs i d h.1 (omega arith)
-
--- ---- words with letters
-
-pub with_letters_more : (n : ℕ) (ws : List (List ℕ)) (i : ℕ) (w : List ℕ) (out next : List (List ℕ)) → i < length ws → w ≡ get_or ws i w → out ≡ with_letters n (take i ws) → next ≡ out ++ map (λ b. w ++ b ∷ []) (up_to n) → next ≡ with_letters n (take (i + 1) ws)
-with_letters_more n ws i w out next within at before step =
-    step ∙ ap₂ (λ f g. f ++ g) before (sym (append-nil (map (λ b. w ++ b ∷ []) (up_to n))))
-    ∙ sym (flat_map-append (λ u. map (λ b. u ++ b ∷ []) (up_to n)) (take i ws) (w ∷ []))
-    ∙ ap (with_letters n) (ap (λ v. take i ws ++ v ∷ []) at ∙ sym (take_more ws i w within))
 
 -- ---- a combination given by a row
 
@@ -76,18 +63,6 @@ candidates_have_columns braid m ws is short few =
     let from : (length w ≡ m) × IsWordOver braid.letters w = from_candidates is_in_kernel braid m w i in
     record { short = subst (λ l. l ≤ symmetrizer_limit) (sym from.0) short; letters = from.1; columns = subst (λ l. braid.letters ^ l < 2 ^ 32) (sym from.0) few }))
 
-with_letters_length : (n : ℕ) (us : List (List ℕ)) → length (with_letters n us) ≡ length us * n
-with_letters_length n [] = let e : ◌≡◌ {A = ℕ} 0 (0 * n) = omega arith in e
-with_letters_length n (u ∷ us) =
-    length-append (map (λ b. u ++ b ∷ []) (up_to n)) (with_letters n us) ∙ ap₂ (λ a b. a + b) (mapped (up_to n) ∙ up_to_length n) (with_letters_length n us) ∙ one (length us)
-  where
-    mapped : (bs : List ℕ) → length (map (λ b. u ++ b ∷ []) bs) ≡ length bs
-    mapped [] = refl
-    mapped (b ∷ bs) = ap suc (mapped bs)
-
-    one : (l : ℕ) → n + l * n ≡ suc l * n
-    one l = omega arith
-
 prefixed_length : (ws : List (List ℕ)) (letters : List ℕ) → length (flat_map (λ a. map (λ w. a ∷ w) ws) letters) ≡ length letters * length ws
 prefixed_length ws [] = let e : ◌≡◌ {A = ℕ} 0 (0 * length ws) = omega arith in e
 prefixed_length ws (a ∷ letters) =
@@ -120,7 +95,7 @@ basis_few braid m = subst (λ l. length (basis is_in_kernel braid m) ≤ l) (wor
 candidates_few : (braid : BraidValue) (m : ℕ) → length (candidates is_in_kernel braid m) ≤ braid.letters ^ m
 candidates_few braid zero = subst (λ l. length (candidates is_in_kernel braid 0) ≤ l) (sym (pow-zero braid.letters)) (subst (λ l. l ≤ 1) (sym (ap length (candidates_first is_in_kernel braid))) (omega arith))
 candidates_few braid (suc m) =
-    let count : length (candidates is_in_kernel braid (suc m)) ≡ length (basis is_in_kernel braid m) * braid.letters = ap length (candidates_next is_in_kernel braid m) ∙ with_letters_length braid.letters (basis is_in_kernel braid m) in
+    let count : length (candidates is_in_kernel braid (suc m)) ≡ braid.letters * length (basis is_in_kernel braid m) = ap length (candidates_next is_in_kernel braid m) ∙ with_letters_length braid.letters (basis is_in_kernel braid m) in
     let bound : length (basis is_in_kernel braid m) * braid.letters ≤ braid.letters ^ m * braid.letters = two_bounds (length (basis is_in_kernel braid m)) braid.letters (braid.letters ^ m) braid.letters (basis_few braid m) (omega arith) in
     let power : braid.letters ^ suc m ≡ braid.letters ^ m * braid.letters = pow-suc braid.letters m in
     omega (arith, count, bound, power)

@@ -9,11 +9,10 @@ ghost use Rattle.nichols_braid.specs.Rows.{made};
 ghost use Rattle.nichols_lift.specs.Lengths.{symmetrizer_limit};
 ghost use Rattle.nichols_plain.specs.Degree.{IsDegree};
 
-use crate::candidates::with_letters;
 use crate::images::image_rows;
 use nichols_braid::Braid;
 use nichols_echelon::{Place, Row, split_rows};
-use nichols_words::{Comb, Relation, Term, Word};
+use nichols_words::{Comb, Relation, Term, Word, with_letters};
 use std::alloc::{AllocError, Global};
 
 /// A degree of the Nichols algebra: its least words and its relations, both rising.

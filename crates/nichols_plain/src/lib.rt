@@ -1,7 +1,6 @@
 //! Degrees of a Nichols algebra straight from the quantum symmetrizer: the plain program that faster ones are held against.
 #![tactic(auto)]
 
-mod candidates;
 mod columns;
 mod degree;
 mod images;

@@ -13,7 +13,8 @@ use Rattle.nichols_tensor.specs.WordOrder.{word_cmp, IsRising}
 use Rattle.nichols_tensor.proofs.Entries.{in_map, in_flat_map, from_map, from_flat_map, in_filter, from_filter}
 use Rattle.nichols_tensor.proofs.Letters.{in_up_to, from_up_to}
 use Rattle.nichols_tensor.proofs.Over.{all-append}
-use Rattle.nichols_tensor.proofs.Rising.{AllOrdered, rising-map, rising-flat_map, filter_before, less_by_test}
+use Rattle.nichols_tensor.proofs.Pushed.{pushed_length}
+use Rattle.nichols_tensor.proofs.Rising.{AllOrdered, rising-map, rising-flat_map, less_by_test}
 
 -- ---- which words
 
@@ -55,9 +56,9 @@ first_less a b v w e less = same_length_cmp (a ∷ v) (b ∷ w) (ap suc e) ∙ a
 
 -- ---- the list rises
 
-letters_rise : (n : ℕ) → AllOrdered (λ a b. a < b) (up_to n)
-letters_rise zero = tt
-letters_rise (suc n) = pushed (up_to n) (suc n) (letters_rise n) (all_below n)
+pub up_to_rises : (n : ℕ) → AllOrdered (λ a b. a < b) (up_to n)
+up_to_rises zero = tt
+up_to_rises (suc n) = pushed (up_to n) (suc n) (up_to_rises n) (all_below n)
   where
     all_below : (n : ℕ) → AllByRecursion (λ a. a < suc n) (up_to n)
     all_below zero = tt
@@ -70,9 +71,6 @@ letters_rise (suc n) = pushed (up_to n) (suc n) (letters_rise n) (all_below n)
     pushed : (cs : List ℕ) (b : ℕ) → AllOrdered (λ a c. a < c) cs → AllByRecursion (λ a. a < b) cs → AllOrdered (λ a c. a < c) (cs ++ b ∷ [])
     pushed [] b o h = (tt, tt)
     pushed (a ∷ cs) b o h = (all-append (λ c. a < c) cs (b ∷ []) o.0 (h.0, tt), pushed cs b o.1 h.1)
-
-pub up_to_rises : (n : ℕ) → AllOrdered (λ a b. a < b) (up_to n)
-up_to_rises n = letters_rise n
 
 pub words_rise : (n m : ℕ) → IsRising (words n m)
 unfolding words
@@ -98,13 +96,6 @@ from_words_before n v w i =
     let from : (length v ≡ length w) × IsWordOver n v = from_words n (length w) v j in
     (from.0, from.1, less_by_test (word_cmp v w) less)
 
--- the words before an entry of the list are those in front of it
-pub words_before_entry : (n m : ℕ) (vs : List (List ℕ)) (w : List ℕ) (us : List (List ℕ)) → length w ≡ m → words n m ≡ vs ++ w ∷ us → words_before n w ≡ vs
-unfolding words_before
-words_before_entry n m vs w us e all =
-    ap (λ l. filter (λ v. is_lt (word_cmp v w)) (words n l)) e ∙ ap (filter (λ v. is_lt (word_cmp v w))) all
-    ∙ filter_before vs w us (subst IsRising all (words_rise n m))
-
 -- ---- words joined at the end
 
 then_assoc : (o p q : Ordering) → ordering_then (ordering_then o p) q ≡ ordering_then o (ordering_then p q)
@@ -119,22 +110,16 @@ slice_cmp-append (a ∷ u) [] x y e = absurd (omega arith)
 slice_cmp-append (a ∷ u) (b ∷ v) x y e =
     ap (ordering_then (nat_cmp a b)) (slice_cmp-append u v x y (omega arith)) ∙ sym (then_assoc (nat_cmp a b) (slice_cmp nat_cmp u v) (slice_cmp nat_cmp x y))
 
-same_length-push : (u v : List ℕ) (a b : ℕ) → length u ≡ length v → length (u ++ a ∷ []) ≡ length (v ++ b ∷ [])
-same_length-push [] [] a b e = refl
-same_length-push [] (c ∷ v) a b e = absurd (omega arith)
-same_length-push (c ∷ u) [] a b e = absurd (omega arith)
-same_length-push (c ∷ u) (d ∷ v) a b e = ap suc (same_length-push u v a b (omega arith))
-
 -- words of one length that are in order stay in order, whatever letters are put behind
 pub push_less : (u v : List ℕ) (a b : ℕ) → length u ≡ length v → word_cmp u v ≡ Less → word_cmp (u ++ a ∷ []) (v ++ b ∷ []) ≡ Less
 push_less u v a b e less =
-    same_length_cmp (u ++ a ∷ []) (v ++ b ∷ []) (same_length-push u v a b e) ∙ slice_cmp-append u v (a ∷ []) (b ∷ []) e
+    same_length_cmp (u ++ a ∷ []) (v ++ b ∷ []) (pushed_length u a ∙ ap suc e ∙ sym (pushed_length v b)) ∙ slice_cmp-append u v (a ∷ []) (b ∷ []) e
     ∙ ap (λ o. ordering_then o (slice_cmp nat_cmp (a ∷ []) (b ∷ []))) (sym (same_length_cmp u v e) ∙ less)
 
 -- and a word is before itself with a lesser letter behind
 pub last_less : (u : List ℕ) (a b : ℕ) → a < b → word_cmp (u ++ a ∷ []) (u ++ b ∷ []) ≡ Less
 last_less u a b less =
-    same_length_cmp (u ++ a ∷ []) (u ++ b ∷ []) (same_length-push u u a b refl) ∙ slice_cmp-append u u (a ∷ []) (b ∷ []) refl
+    same_length_cmp (u ++ a ∷ []) (u ++ b ∷ []) (pushed_length u a ∙ sym (pushed_length u b)) ∙ slice_cmp-append u u (a ∷ []) (b ∷ []) refl
     ∙ ap (λ o. ordering_then o (ordering_then (nat_cmp a b) Equal)) (itself u) ∙ ap (λ o. ordering_then o Equal) (number_below a b less)
   where
     itself : (v : List ℕ) → slice_cmp nat_cmp v v ≡ Equal
@@ -147,13 +132,3 @@ pub among_words : (n m : ℕ) (f : Combination) → HasDegree m f → IsOver n f
 unfolding AllAmong
 among_words n m [] d o = tt
 among_words n m (t ∷ f) d o = (in_words n m t.word d.0 o.0, among_words n m f d.1 o.1)
-
-pub degree_among_words : (n m : ℕ) (f : Combination) → AllAmong f (words n m) → HasDegree m f
-unfolding AllAmong
-degree_among_words n m [] a = tt
-degree_among_words n m (t ∷ f) a = ((from_words n m t.word a.0).0, degree_among_words n m f a.1)
-
-pub over_among_words : (n m : ℕ) (f : Combination) → AllAmong f (words n m) → IsOver n f
-unfolding AllAmong
-over_among_words n m [] a = tt
-over_among_words n m (t ∷ f) a = ((from_words n m t.word a.0).1, over_among_words n m f a.1)

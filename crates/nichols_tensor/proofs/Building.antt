@@ -7,10 +7,10 @@ use Rattle.std.proofs.lemmas.Bool.Decides.{Decides-eqb}
 use Rattle.nichols_field.specs.Field.{FieldValue, IsField, IsElement, plus, times}
 use Rattle.nichols_field.proofs.FieldLaws.{plus_zero, times_is_element, times_eq_zero}
 use Rattle.nichols_field.proofs.FieldAlgebra.{zero_plus, chosen_is_element}
-use Rattle.nichols_tensor.specs.Combination.{Term, Combination, value_at, HasSameValues, same_letters, words_of, AllElements, AllNonzero, without_zeros, scaled}
+use Rattle.nichols_tensor.specs.Combination.{Term, Combination, value_at, HasSameValues, same_letters, words_of, AllElements, AllNonzero, without_zeros, scaled, extended}
 use Rattle.nichols_tensor.specs.WordOrder.{IsBelowFirst, IsRising, IsOrdered}
 use Rattle.nichols_tensor.proofs.Values.{value_is_element, value_at-append, value_at-scaled}
-use Rattle.nichols_tensor.proofs.Order.{below_after, words_of-push}
+use Rattle.nichols_tensor.proofs.Order.{below_after}
 use Rattle.nichols_tensor.proofs.Over.{all-scaled}
 
 pub elements-append : (k : FieldValue) (f g : Combination) → AllElements k f → AllElements k g → AllElements k (f ++ g)
@@ -23,13 +23,6 @@ elements-push k f t h e = elements-append k f (t ∷ []) h (e, tt)
 pub nonzero-push : (f : Combination) (t : Term) → AllNonzero f → t.coefficient ≢ 0 → AllNonzero (f ++ t ∷ [])
 nonzero-push [] t h e = (e, tt)
 nonzero-push (s ∷ f) t h e = (h.0, nonzero-push f t h.1 e)
-
--- a term whose word stands after the last, and whose coefficient isn't 0, may be put behind a combination in order
-pub ordered-push : (f : Combination) (t : Term) → IsOrdered f → IsRising (words_of f ++ t.word ∷ []) → t.coefficient ≢ 0 → IsOrdered (f ++ t ∷ [])
-ordered-push f t o rising e = record {
-  rising = subst IsRising (sym (sym (append-nil (words_of (f ++ t ∷ []))) ∙ words_of-push f t [])) rising;
-  nonzero = nonzero-push f t o.nonzero e;
-}
 
 pub value_at-push : (k : FieldValue) → IsField k → (f : Combination) (t : Term) (w : List ℕ) → IsElement k t.coefficient → value_at k (f ++ t ∷ []) w ≡ plus k (value_at k f w) (cond (same_letters t.word w) t.coefficient 0)
 value_at-push k is f t w e =
@@ -45,9 +38,6 @@ elements-scaled k is c (t ∷ f) = (times_is_element k c t.coefficient is, eleme
 pub words_of-scaled : (k : FieldValue) (c : ℕ) (f : Combination) → words_of (scaled k c f) ≡ words_of f
 words_of-scaled k c [] = refl
 words_of-scaled k c (t ∷ f) = ap (λ ws. t.word ∷ ws) (words_of-scaled k c f)
-
-pub scaled-push : (k : FieldValue) (c : ℕ) (f : Combination) (t : Term) → scaled k c (f ++ t ∷ []) ≡ scaled k c f ++ record { word = t.word; coefficient = times k c t.coefficient } ∷ []
-scaled-push k c f t = map-append (λ u. record { word = u.word; coefficient = times k c u.coefficient }) f (t ∷ [])
 
 pub nonzero-scaled : (k : FieldValue) → IsField k → (c : ℕ) (f : Combination) → IsElement k c → c ≢ 0 → AllElements k f → AllNonzero f → AllNonzero (scaled k c f)
 nonzero-scaled k is c [] e nonzero elements h = tt
@@ -72,9 +62,6 @@ kept_by_test n h = at (nat_eq n 0) refl
     at : (b : Bool) → nat_eq n 0 ≡ b → not b ≡ true
     at true e = absurd (h ((Decides-eqb n 0).0 e))
     at false e = refl
-
-pub without_zeros-append : (f g : Combination) → without_zeros (f ++ g) ≡ without_zeros f ++ without_zeros g
-without_zeros-append f g = filter-append (λ t. not (nat_eq t.coefficient 0)) f g
 
 pub without_zeros-nonzero : (f : Combination) → AllNonzero f → without_zeros f ≡ f
 without_zeros-nonzero [] h = refl
@@ -150,3 +137,7 @@ all-multiple P k c f h = all-without_zeros (λ t. P t.word) (scaled k c f) (all-
 pub value_at-one : (k : FieldValue) → IsField k → (t : Term) (w : List ℕ) → IsElement k t.coefficient → value_at k (without_zeros (t ∷ [])) w ≡ cond (same_letters t.word w) t.coefficient 0
 value_at-one k is t w e =
     value_at-without_zeros k is (t ∷ []) w ∙ plus_zero k (cond (same_letters t.word w) t.coefficient 0) (chosen_is_element k (same_letters t.word w) t.coefficient is e)
+
+pub elements-extended : (k : FieldValue) → IsField k → (image : List ℕ → Combination) (f : Combination) → AllElements k (extended k image f)
+elements-extended k is image [] = tt
+elements-extended k is image (t ∷ f) = elements-append k (scaled k t.coefficient (image t.word)) (extended k image f) (elements-scaled k is t.coefficient (image t.word)) (elements-extended k is image f)

@@ -97,13 +97,6 @@ some_of {X = X} t (y ∷ ys) h = at (t y) refl h (λ k. some_of t ys k)
     at true e h rest = (y, inl refl, e)
     at false e h rest = let (x, i, k) = rest h in (x, inr i, k)
 
-pub none_of : {X : Type 0} (t : X → Bool) (x : X) (xs : List X) → IsIn x xs → list_any t xs ≡ false → t x ≡ false
-none_of t x xs h none = at (t x) refl
-  where
-    at : (b : Bool) → t x ≡ b → t x ≡ false
-    at true e = absurd (let c : true ≡ false = sym (any_of t x xs h e) ∙ none in cc)
-    at false e = e
-
 pub each_of : {X : Type 0} (t : X → Bool) (xs : List X) → ((x : X) → IsIn x xs → t x ≡ true) → list_all t xs ≡ true
 unfolding IsIn
 each_of t [] h = refl

@@ -2,12 +2,12 @@
 use Rattle.std.proofs.Common.{◌≡◌, ◌≢◌, ℕ, Bool, true, false, not, cond, List, [], ◌∷◌, ◌++◌, map, refl, sym, ◌∙◌, ap, subst, ◌⊎◌, inl, inr}
 use Rattle.std.specs.List.{flat_map, filter, AllByRecursion}
 use Rattle.std.specs.Cmp.Lexicographic.{same_text}
-use Rattle.nichols_field.specs.Field.{FieldValue, IsField, IsElement, plus, elements}
-use Rattle.nichols_field.proofs.FieldLaws.{plus_zero, zero_is_element}
+use Rattle.nichols_field.specs.Field.{FieldValue, IsField, plus, elements}
+use Rattle.nichols_field.proofs.FieldLaws.{plus_zero}
 use Rattle.nichols_field.proofs.FieldAlgebra.{zero_plus}
 use Rattle.nichols_field.proofs.Elements.{element_is_listed, listed_is_element}
 use Rattle.nichols_tensor.specs.Members.{IsIn}
-use Rattle.nichols_tensor.specs.Combination.{Term, Combination, value_at, HasSameValues, same_letters, words_of, AllElements, AllAmong, scaled}
+use Rattle.nichols_tensor.specs.Combination.{Combination, value_at, HasSameValues, same_letters, words_of, AllElements, AllAmong, scaled}
 use Rattle.nichols_tensor.specs.Words.{combinations}
 use Rattle.nichols_tensor.proofs.Entries.{in_map, in_flat_map, from_map, from_flat_map, in_from_contains, contains_from_in}
 use Rattle.nichols_tensor.proofs.Values.{without, value_without, value_is_element, same_itself}

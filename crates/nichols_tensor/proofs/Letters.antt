@@ -1,5 +1,6 @@
 -- The list of the letters.
-use Rattle.std.proofs.Common.{ℕ, zero, suc, [], ◌∷◌, arith, inl, inr}
+use Rattle.std.proofs.Common.{◌≡◌, ℕ, zero, suc, ◌+◌, [], ◌∷◌, length, refl, ◌∙◌, ap, arith, inl, inr}
+use Rattle.std.proofs.lemmas.List.{length-append}
 use Rattle.std.proofs.lemmas.Bool.{cases_lt}
 use Rattle.nichols_tensor.specs.Members.{IsIn}
 use Rattle.nichols_tensor.specs.Words.{up_to, IsLetterOf}
@@ -26,3 +27,7 @@ from_up_to (suc n) a h =
     last : IsIn a (suc n ∷ []) → IsLetterOf (suc n) a
     last (inl e) = (omega arith, omega arith)
     last (inr e) = absurd e
+
+pub up_to_length : (n : ℕ) → length (up_to n) ≡ n
+up_to_length zero = refl
+up_to_length (suc n) = length-append (up_to n) (suc n ∷ []) ∙ ap (λ l. l + 1) (up_to_length n) ∙ (let e : n + 1 ≡ suc n = omega arith in e)

@@ -1,10 +1,10 @@
 -- Linear maps: they keep sums, multiples and zero, and see the values of a combination alone.
 use Rattle.std.proofs.Common.{◌≡◌, ℕ, List, [], ◌∷◌, ◌++◌, map, refl, sym, ◌∙◌, ap, append_assoc}
 use Rattle.std.specs.List.{flat_map}
-use Rattle.nichols_field.specs.Field.{FieldValue, IsField, IsElement, plus, times, negative}
-use Rattle.nichols_field.proofs.FieldLaws.{plus_comm, plus_zero, times_one, zero_is_element, one_is_element, times_is_element}
+use Rattle.nichols_field.specs.Field.{FieldValue, IsField, plus, times, negative}
+use Rattle.nichols_field.proofs.FieldLaws.{plus_zero}
 use Rattle.nichols_field.proofs.FieldAlgebra.{one_times, difference_of_same, same_from_difference}
-use Rattle.nichols_tensor.specs.Combination.{Term, Combination, value_at, HasSameValues, IsZero, single, scaled, minus, extended, same_letters}
+use Rattle.nichols_tensor.specs.Combination.{Combination, value_at, HasSameValues, IsZero, single, scaled, minus, extended}
 use Rattle.nichols_tensor.proofs.Values.{value_is_element, value_at-append, value_at-scaled, value_at-minus, weight, weight_is_element, weight-append, weight-scaled, value_at-extended, weightless}
 
 -- a combination that is zero is sent to zero
@@ -50,9 +50,3 @@ same_append k is f g f' g' p q w =
 
 pub same_scaled : (k : FieldValue) → IsField k → (c : ℕ) (f g : Combination) → HasSameValues k f g → HasSameValues k (scaled k c f) (scaled k c g)
 same_scaled k is c f g p w = value_at-scaled k is c f w ∙ ap (times k c) (p w) ∙ sym (value_at-scaled k is c g w)
-
--- a linear map of the difference is the difference of the images
-pub extended-minus : (k : FieldValue) → IsField k → (image : List ℕ → Combination) (f g : Combination) → HasSameValues k (extended k image (minus k f g)) (minus k (extended k image f) (extended k image g))
-extended-minus k is image f g w =
-    ap (λ h. value_at k h w) (extended-append k image f (scaled k (negative k 1) g))
-    ∙ same_append k is (extended k image f) (extended k image (scaled k (negative k 1) g)) (extended k image f) (scaled k (negative k 1) (extended k image g)) (λ v. refl) (extended-scaled k is image (negative k 1) g) w

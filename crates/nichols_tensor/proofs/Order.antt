@@ -67,15 +67,6 @@ pub rising_back : (vs us : List (List ℕ)) → IsRising (vs ++ us) → IsRising
 rising_back [] us h = h
 rising_back (v ∷ vs) us h = rising_back vs us h.1
 
-below_before : (v : List ℕ) (vs us : List (List ℕ)) → IsBelowFirst v (vs ++ us) → IsBelowFirst v vs
-below_before v [] us h = tt
-below_before v (x ∷ vs) us h = h
-
--- the first words of a list that rises rise
-pub rising_before : (vs us : List (List ℕ)) → IsRising (vs ++ us) → IsRising vs
-rising_before [] us h = tt
-rising_before (v ∷ vs) us h = (below_before v vs us h.0, rising_before vs us h.1)
-
 pub below_after : (v w : List ℕ) (us : List (List ℕ)) → word_cmp v w ≡ Less → IsBelowFirst w us → IsBelowFirst v us
 below_after v w [] h k = tt
 below_after v w (u ∷ us) h k = word_cmp_total.trans v w u h k

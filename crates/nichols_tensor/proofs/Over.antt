@@ -32,11 +32,6 @@ letter_over n [] k h less = absurd (omega arith)
 letter_over n (a ∷ w) zero h less = h.0
 letter_over n (a ∷ w) (suc k) h less = letter_over n w k h.1 (omega arith)
 
--- one of n letters is one of more
-pub word_over_more : (n m : ℕ) (w : List ℕ) → n ≤ m → IsWordOver n w → IsWordOver m w
-word_over_more n m [] le h = tt
-word_over_more n m (a ∷ w) le h = ((h.0.0, omega (arith, h.0.1)), word_over_more n m w le h.1)
-
 -- ---- combinations
 
 pub all-append : {X : Type 0} (P : X → Type 0) (xs ys : List X) → AllByRecursion P xs → AllByRecursion P ys → AllByRecursion P (xs ++ ys)

@@ -8,7 +8,7 @@ use Rattle.nichols_tensor.specs.Members.{IsIn}
 use Rattle.nichols_tensor.specs.Positions.{word_at}
 use Rattle.nichols_tensor.specs.WordOrder.{word_cmp, IsBelowFirst, IsRising}
 use Rattle.nichols_tensor.proofs.Entries.{in_right, in_either}
-use Rattle.nichols_tensor.proofs.Order.{word_cmp_itself, greater_back, less_is_other, below_after}
+use Rattle.nichols_tensor.proofs.Order.{greater_back, less_is_other, below_after}
 
 -- ---- which lists rise
 
@@ -104,24 +104,6 @@ pub less_by_test : (o : Ordering) → is_lt o ≡ true → o ≡ Less
 less_by_test Less h = refl
 less_by_test Equal h = cc
 less_by_test Greater h = cc
-
-pub not_less_back : (v w : List ℕ) → word_cmp v w ≡ Less → is_lt (word_cmp w v) ≡ false
-not_less_back v w h = ap is_lt (greater_back v w h)
-
-none_kept : (w : List ℕ) (us : List (List ℕ)) → ((u : List ℕ) → IsIn u us → is_lt (word_cmp u w) ≡ false) → filter (λ v. is_lt (word_cmp v w)) us ≡ []
-unfolding IsIn
-none_kept w [] h = refl
-none_kept w (u ∷ us) h =
-    ap (λ b. cond b (u ∷ filter (λ v. is_lt (word_cmp v w)) us) (filter (λ v. is_lt (word_cmp v w)) us)) (h u (inl refl)) ∙ none_kept w us (λ x i. h x (inr i))
-
--- the words of a rising list that stand before one of its words
-pub filter_before : (vs : List (List ℕ)) (w : List ℕ) (us : List (List ℕ)) → IsRising (vs ++ w ∷ us) → filter (λ v. is_lt (word_cmp v w)) (vs ++ w ∷ us) ≡ vs
-unfolding IsIn
-filter_before [] w us r = none_kept w (w ∷ us) (λ u i. elim i [ inl e ↦ ap (λ x. is_lt (word_cmp x w)) e ∙ ap is_lt (word_cmp_itself w) | inr j ↦ not_less_back w u (below_all w us u r.0 r.1 j) ])
-filter_before (v ∷ vs) w us r =
-    ap (λ b. cond b (v ∷ filter (λ x. is_lt (word_cmp x w)) (vs ++ w ∷ us)) (filter (λ x. is_lt (word_cmp x w)) (vs ++ w ∷ us)))
-    (ap is_lt (stands_before (v ∷ vs) w us v r (inl refl)))
-    ∙ ap (λ x. v ∷ x) (filter_before vs w us r.1)
 
 -- ---- positions
 

@@ -1,14 +1,14 @@
 -- Values of combinations: of sums, of multiples, and of linear maps.
-use Rattle.std.proofs.Common.{◌≡◌, ℕ, zero, suc, ◌+◌, ◌<◌, ◌≤◌, Bool, true, false, not, cond, ◌&&◌, ◌||◌, ◌⊎◌, inl, inr, List, [], ◌∷◌, ◌++◌, map, length, refl, sym, ◌∙◌, ap, rules, arith, subst, nat_eq}
+use Rattle.std.proofs.Common.{◌≡◌, ℕ, zero, suc, ◌+◌, ◌<◌, ◌≤◌, Bool, true, false, not, cond, ◌&&◌, ◌||◌, ◌⊎◌, inl, inr, List, [], ◌∷◌, ◌++◌, map, length, refl, sym, ◌∙◌, ap, rules, arith, subst, nat_eq, ap₂}
 use Rattle.std.specs.List.{flat_map, filter, list_all, list_any}
 use Rattle.std.specs.Cmp.Lexicographic.{same_text, other_text}
 use Rattle.std.specs.Cmp.Derive.{both_true}
 use Rattle.std.proofs.lemmas.Bool.Decides.{Decides-eqb}
 use Rattle.std.proofs.lemmas.Bool.{cases_Bool}
 use Rattle.nichols_field.specs.Field.{FieldValue, IsField, IsElement, plus, times, negative}
-use Rattle.nichols_field.proofs.FieldLaws.{plus_comm, plus_assoc, plus_zero, times_comm, times_assoc, times_plus, times_zero, times_one, zero_is_element, plus_is_element, times_is_element}
-use Rattle.nichols_field.proofs.FieldAlgebra.{zero_plus, zero_times, plus_times, swap_first, times_chosen, difference_of_same, same_from_difference}
-use Rattle.nichols_tensor.specs.Combination.{Term, Combination, value_at, HasSameValues, IsZero, is_zero, single, scaled, minus, extended, same_letters}
+use Rattle.nichols_field.proofs.FieldLaws.{plus_assoc, plus_zero, times_assoc, times_plus, times_zero, zero_is_element, plus_is_element}
+use Rattle.nichols_field.proofs.FieldAlgebra.{zero_plus, zero_times, plus_times, swap_first, times_chosen}
+use Rattle.nichols_tensor.specs.Combination.{Term, Combination, value_at, IsZero, is_zero, scaled, minus, extended, same_letters}
 
 pub value_is_element : (k : FieldValue) → IsField k → (f : Combination) (w : List ℕ) → IsElement k (value_at k f w)
 value_is_element k is [] w = zero_is_element k is
@@ -181,3 +181,10 @@ is_zero_complete k f h = each f
     each : (g : Combination) → zero_at_each k f g ≡ true
     each [] = refl
     each (t ∷ g) = both_true ((Decides-eqb (value_at k f t.word) 0).1 (h t.word)) (each g)
+
+-- the weight of a combination of images is a sum of the images' weights
+pub weight-extended : (k : FieldValue) → IsField k → (φ : List ℕ → ℕ) (image : List ℕ → Combination) (f : Combination) → weight k φ (extended k image f) ≡ weight k (λ w. weight k φ (image w)) f
+unfolding weight
+weight-extended k is φ image [] = refl
+weight-extended k is φ image (t ∷ f) =
+    weight-append k is φ (scaled k t.coefficient (image t.word)) (extended k image f) ∙ ap₂ (plus k) (weight-scaled k is φ t.coefficient (image t.word)) (weight-extended k is φ image f)

@@ -3,5 +3,4 @@ pub mod Combination
 pub mod WordOrder
 pub mod Words
 pub mod Relation
-pub mod Laws
 pub mod Positions

@@ -31,6 +31,10 @@ IsOver n f = AllByRecursion (λ t. IsWordOver n t.word) f
 abbrev pub HasDegree : ℕ → Combination → Type 0
 HasDegree m f = AllByRecursion (λ t. length t.word ≡ m) f
 
+-- the words of a list, each with each of n letters behind
+abbrev pub with_letters : ℕ → List (List ℕ) → List (List ℕ)
+with_letters n us = flat_map (λ u. map (λ b. u ++ b ∷ []) (up_to n)) us
+
 -- the words of m letters over n letters, rising
 unfoldable pub words : ℕ → ℕ → List (List ℕ)
 words n zero = [] ∷ []

@@ -10,7 +10,7 @@ use Rattle.nichols_braid.specs.End.{dimension, is_empty_degree, finished_from, f
 use Rattle.nichols_text.specs.declared.end.EndLine.{EndLine}
 use Rattle.nichols_text.specs.declared.end.EndLine.TheVariants.{Closed, DegreeLimit}
 use Rattle.nichols_text.specs.Pieces.{header_piece, end_piece}
-use Rattle.nichols_top.specs.Report.{Report, rows_limit, degree_due, dimensions_due, end_due, pieces_due, algebra_due}
+use Rattle.nichols_top.specs.Report.{rows_limit, degree_due, dimensions_due, end_due, pieces_due, algebra_due}
 use Rattle.nichols_top.proofs.Put.{HasPut, put_next}
 
 -- the degrees from m on that are finished

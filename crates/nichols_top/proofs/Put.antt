@@ -6,10 +6,10 @@ use Rattle.std.proofs.lemmas.List.{take-append-le}
 use Rattle.std.specs.Io.KnownBytes.{Appends}
 use Rattle.nichols_io.specs.Bytes.{AppendsProperPrefix}
 use Rattle.nichols_text.specs.Lines.{memory_text}
-use Rattle.nichols_io.specs.Counts.{Rose, following}
+use Rattle.nichols_io.specs.Counts.{Rose}
 use Rattle.nichols_top.specs.Output.{PutsLine, put, cut, Breaks, fault, no_memory, PutsEnd, ended, broken}
 use Rattle.nichols_top.specs.Report.{Report}
-use Rattle.nichols_top.specs.Ends.{text_of, last_degree, memory_due, IsOwed, all_pieces, some_pieces, EndsAs, whole, write_fault, memory}
+use Rattle.nichols_top.specs.Ends.{text_of, last_degree, memory_due, all_pieces, some_pieces, EndsAs, whole, write_fault, memory}
 
 pub appends_nothing : (a : Option (List ℕ)) → Appends a a []
 appends_nothing None = tt

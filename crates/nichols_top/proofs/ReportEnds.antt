@@ -9,14 +9,14 @@ use Rattle.std.specs.Io.KnownBytes.{Appends}
 use Rattle.nichols_io.specs.Counts.{Rose}
 use Rattle.nichols_braid.specs.Braid.{BraidValue}
 use Rattle.nichols_braid.specs.Kernel.{is_in_kernel}
-use Rattle.nichols_braid.specs.End.{dimension, is_empty_degree, finished}
+use Rattle.nichols_braid.specs.End.{dimension, is_empty_degree}
 use Rattle.nichols_text.specs.declared.end.EndLine.TheVariants.{Closed, DegreeLimit}
 use Rattle.nichols_text.specs.Lines.{memory_text}
 use Rattle.nichols_text.specs.Pieces.{header_piece, end_piece}
-use Rattle.nichols_top.specs.Report.{Report, rows_limit, degree_due, dimensions_due, end_due, pieces_due, algebra_due}
+use Rattle.nichols_top.specs.Report.{rows_limit, degree_due, pieces_due, algebra_due}
 use Rattle.nichols_top.specs.Ends.{last_degree, EndsAs}
 use Rattle.nichols_top.specs.Output.{PutsLine, Breaks, PutsEnd}
-use Rattle.nichols_top.proofs.Put.{HasPut, put_none, ends_line, ends_broken, ends_last, last_degree-next}
+use Rattle.nichols_top.proofs.Put.{put_none, ends_line, ends_broken, ends_last, last_degree-next}
 use Rattle.nichols_top.proofs.Progress.{Progress, IsAtEnd, progress_start, degree_next, progress_more, progress_closed, progress_limit}
 
 pub header_broken : (braid : BraidValue) (limit : ℕ) (before now : Option (List ℕ)) (sr : Type 0) (a c status : ℕ) → Breaks (header_piece braid limit rows_limit) None before now (Rose a c) status → EndsAs (algebra_due braid limit) before now sr (Rose a c) status

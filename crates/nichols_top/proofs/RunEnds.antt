@@ -14,9 +14,9 @@ use Rattle.nichols_input.specs.declared.faults.InputFault.{InputFault}
 use Rattle.nichols_input.specs.declared.faults.InputFault.TheVariants.{NotDistributive, Unbuilt, Memory}
 use Rattle.nichols_text.specs.Lines.{usage_text, read_fault_text, not_built_text, not_distributive_text, memory_text}
 use Rattle.nichols_top.specs.Report.{Report, line_report, algebra_due, pieces_due, braid_due, document_due, document_limit, due, due_under, degree_limit, short_number, within_degrees}
-use Rattle.nichols_top.specs.Ends.{text_of, last_degree, memory_due, EndsAs, whole, read_fault, write_fault, memory, IsOwed, all_pieces, fault_line, some_pieces}
-use Rattle.nichols_top.specs.Output.{PutsLine, put, cut, Breaks, fault, no_memory}
-use Rattle.nichols_top.proofs.Put.{HasPut, put_none, put_next, ends_whole, ends_line, ends_broken}
+use Rattle.nichols_top.specs.Ends.{text_of, EndsAs, whole, read_fault, write_fault, memory, all_pieces, fault_line}
+use Rattle.nichols_top.specs.Output.{PutsLine, put, cut, Breaks}
+use Rattle.nichols_top.proofs.Put.{HasPut, put_none, ends_line, ends_broken}
 
 -- ---- reports of one line
 
@@ -101,10 +101,6 @@ with_source report before after sr kr _ (read_fault none p) = absurd none
 with_source report before after sr kr _ (write_fault owed o rose p) = write_fault owed o rose p
 with_source report before after sr kr _ (memory k less p) = memory k less p
 
-pub line_cause : (before after : Option (List ℕ)) (kr : Type 0) (line : List ℕ) (status result : ℕ) → PutsLine before after kr line status result → (result ≡ status) ⊎ ((result ≡ 5) × kr)
-line_cause before after kr line status _ (put p) = inl refl
-line_cause before after kr line status _ (cut rose p) = inr (refl, rose)
-
 -- the statuses of a document's report
 pub record IsDocumentStatus (status : ℕ) : Type 0 where
   pub not_usage : status ≢ 1
@@ -137,13 +133,6 @@ answered limit r before after kr result h = at (ends_cause (braid_due limit r) b
     at (inl e) s = record { not_usage = λ f. s.not_usage (sym e ∙ f); not_read = λ f. s.not_read (sym e ∙ f); write = λ f. absurd (s.not_write (sym e ∙ f)); most = subst (λ n. n ≤ 7) (sym e) s.most }
     at (inr (inl p)) s = let e : result ≡ 5 = p.0 in record { not_usage = λ f. omega arith; not_read = λ f. omega arith; write = λ f. p.1; most = omega arith }
     at (inr (inr e)) s = record { not_usage = λ f. omega arith; not_read = λ f. omega arith; write = λ f. absurd (omega arith); most = omega arith }
-
-pub lined : (before after : Option (List ℕ)) (kr : Type 0) (line : List ℕ) (status result : ℕ) → PutsLine before after kr line status result → status ≢ 1 → status ≢ 4 → status ≢ 5 → status ≤ 7 → IsAnswered kr result
-lined before after kr line status result h a b c d = at (line_cause before after kr line status result h)
-  where
-    at : (result ≡ status) ⊎ ((result ≡ 5) × kr) → IsAnswered kr result
-    at (inl e) = record { not_usage = λ f. a (sym e ∙ f); not_read = λ f. b (sym e ∙ f); write = λ f. absurd (c (sym e ∙ f)); most = subst (λ n. n ≤ 7) (sym e) d }
-    at (inr p) = let e : result ≡ 5 = p.0 in record { not_usage = λ f. omega arith; not_read = λ f. omega arith; write = λ f. p.1; most = omega arith }
 
 -- a document whose refusal is known
 pub unbuilt_ends : (limit : ℕ) (r : Result BraidValue InputFault) (before now : Option (List ℕ)) (sr kr : Type 0) (result : ℕ) → (Unbuilt ≡ Memory) ⊎ (r ≡ Err Unbuilt) → PutsLine before now kr not_built_text 7 result → EndsAs (braid_due limit r) before now sr kr result

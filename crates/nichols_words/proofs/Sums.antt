@@ -1,5 +1,5 @@
 -- Sums of terms in any order.
-use Rattle.std.proofs.Common.{◌≡◌, ◌≢◌, ℕ, cond, List, [], ◌∷◌, ◌++◌, refl, sym, ◌∙◌, ap, ap₂, subst, ◌⊎◌, inl, inr, Result, Ok, Err, IfOk}
+use Rattle.std.proofs.Common.{◌≡◌, ◌≢◌, ℕ, cond, List, [], ◌∷◌, ◌++◌, sym, ◌∙◌, ap, ap₂, ◌⊎◌, inl, inr, Result, Ok, Err, IfOk}
 use Rattle.nichols_field.specs.Field.{FieldValue, IsField, IsElement, plus, times}
 use Rattle.nichols_field.proofs.FieldLaws.{plus_zero}
 use Rattle.nichols_field.proofs.FieldAlgebra.{one_times, chosen_is_element}
@@ -16,14 +16,6 @@ among_same k is r f elements shape same = among_nonzero k is r (words_of f) elem
     at : (w : List ℕ) → value_at k r w ≢ 0 → IsIn w (words_of f) ⊎ (IsIn w (words_of f) → ⊥) → IsIn w (words_of f)
     at w some (inl here) = here
     at w some (inr none) = absurd (some (same w ∙ zero_at_others k is f w none))
-
-pub elements_left : (k : FieldValue) (f g : Combination) → AllElements k (f ++ g) → AllElements k f
-elements_left k [] g h = tt
-elements_left k (t ∷ f) g h = (h.0, elements_left k f g h.1)
-
-pub elements_right : (k : FieldValue) (f g : Combination) → AllElements k (f ++ g) → AllElements k g
-elements_right k [] g h = h
-elements_right k (t ∷ f) g h = elements_right k f g h.1
 
 -- one term alone
 pub one_term : (k : FieldValue) → IsField k → (r : Combination) (t : Term) → IsElement k t.coefficient → ((w : List ℕ) → value_at k r w ≡ cond (same_letters t.word w) t.coefficient 0) → HasSameValues k r (t ∷ [])

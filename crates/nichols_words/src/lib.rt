@@ -2,6 +2,7 @@
 #![tactic(auto)]
 
 mod comb;
+mod longer;
 mod merge;
 mod multiples;
 mod order;
@@ -11,6 +12,7 @@ mod term;
 mod word;
 
 pub use comb::Comb;
+pub use longer::with_letters;
 pub use relation::Relation;
 pub use term::Term;
 pub use word::Word;

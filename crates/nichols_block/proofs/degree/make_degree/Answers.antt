@@ -10,8 +10,8 @@ use Rattle.nichols_block.proofs.RuleOf.{rule_basis}
 use Rattle.nichols_block.proofs.NextRule.{basis_is_short, basis_is_rising, words_are_candidates, all_forms_over, all_forms_fit, AreRowsOf, rows_are, rows_have_elements, rows_count, places_inside, words_rise, next_rule}
 use Rattle.nichols_block.proofs.degree.make_degree.Goals as goal
 
-pub candidates-requires-clause-short : goal.candidates-requires-clause-short
-candidates-requires-clause-short c =
+pub with_letters-requires-clause-room : goal.with_letters-requires-clause-room
+with_letters-requires-clause-room c =
     let m : ℕ = c.args.lower.now.degree in
     let us : c.as_slice-below.result.now ≡ basis is_killed c.args.braid.now m = c.as_slice-below.ensures.value ∙ ap (λ (r : PlainRule). r.basis) c.lower.view_is ∙ rule_basis c.args.braid.now m c.args.lower.now c.requires.rule in
     basis_is_short c.args.braid.now m c.as_slice-below.result.now us c.requires.degree

@@ -1,4 +1,4 @@
-use Rattle.std.proofs.Common.{◌<◌, ◌≡◌, ◌∙◌, sym, true, false}
+use Rattle.std.proofs.Common.{◌∙◌, sym}
 use Rattle.std.specs.List.{list_all}
 use Rattle.nichols_tensor.specs.Words.{up_to}
 use Rattle.nichols_braid.specs.Faults.{cocycle_holds_at}

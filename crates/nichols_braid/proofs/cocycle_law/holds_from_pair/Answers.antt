@@ -1,6 +1,4 @@
-use Rattle.std.proofs.Common.{◌<◌, ◌≡◌, ◌∙◌, sym, true, false}
-use Rattle.std.specs.List.{list_all}
-use Rattle.nichols_tensor.specs.Words.{up_to}
+use Rattle.std.proofs.Common.{◌∙◌, sym}
 use Rattle.nichols_braid.specs.Faults.{cocycle_holds_at}
 use Rattle.nichols_braid.specs.Tables.{with_scalars}
 use Rattle.nichols_braid.proofs.Search.{all_up_to-more, all_up_to-broken}

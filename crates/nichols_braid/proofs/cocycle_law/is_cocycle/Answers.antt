@@ -1,4 +1,4 @@
-use Rattle.std.proofs.Common.{◌≡◌, ◌∙◌, sym, ap, true, false, Bool, ◌&&◌, refl}
+use Rattle.std.proofs.Common.{◌≡◌, ◌∙◌, sym, true, false, Bool, ◌&&◌}
 use Rattle.nichols_braid.specs.Faults.{is_cocycle}
 use Rattle.nichols_braid.proofs.cocycle_law.is_cocycle.Goals as goal
 

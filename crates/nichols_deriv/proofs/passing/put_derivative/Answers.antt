@@ -1,9 +1,9 @@
-use Rattle.std.proofs.Common.{◌≡◌, ◌-◌, ◌∙◌, ℕ, List, ap, ap₂, sym, subst, refl, take, set, get_or, arith}
+use Rattle.std.proofs.Common.{◌≡◌, ◌-◌, ◌∙◌, ap, ap₂, sym, subst, refl, take, set, get_or, arith}
 use Rattle.nichols_field.specs.Field.{times}
 use Rattle.nichols_tensor.specs.Combination.{Term}
-use Rattle.nichols_braid.specs.Braid.{act, scalar}
+use Rattle.nichols_braid.specs.Braid.{scalar}
 use Rattle.nichols_deriv.proofs.Passed.{IsPassing, passing_start, passing-other, passing-here, passed_all, stepped, stepped_some, stepped_none}
-use Rattle.nichols_deriv.proofs.passing.put_derivative.Goals.{After-set, Else-left-gt0, then-a-letter+in_ok-push, else-a-letter}
+use Rattle.nichols_deriv.proofs.passing.put_derivative.Goals.{then-a-letter+in_ok-push, else-a-letter}
 use Rattle.nichols_deriv.proofs.passing.put_derivative.Goals as goal
 
 pub loop-left-init : goal.loop-left-init

@@ -2,7 +2,6 @@ use Rattle.std.proofs.Common.{◌≡◌, ◌<◌, ◌∙◌, ℕ, List, length, 
 use Rattle.nichols_field.specs.Field.{IsElement, times}
 use Rattle.nichols_field.proofs.FieldLaws.{one_is_element}
 use Rattle.nichols_tensor.specs.Combination.{Term}
-use Rattle.nichols_braid.specs.Lift.{IsDescentAt, lift}
 use Rattle.nichols_lift.proofs.Bubble.{found_is_descent}
 use Rattle.nichols_lift.proofs.Leading.{leading_start, descent_within, leading-cross, leading_end, closed_lift, none_left, fewer_left}
 use Rattle.nichols_lift.proofs.lifting.lift.Goals as goal

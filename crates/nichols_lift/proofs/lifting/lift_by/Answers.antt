@@ -2,7 +2,7 @@ use Rattle.std.proofs.Common.{◌≡◌, ◌<◌, ◌∙◌, ℕ, List, length, 
 use Rattle.nichols_field.specs.Field.{IsElement, times}
 use Rattle.nichols_field.proofs.FieldLaws.{one_is_element}
 use Rattle.nichols_braid.specs.Crossing.{cross, cross_scalar}
-use Rattle.nichols_lift.proofs.Leading.{following_start, place_within, following-cross, following_end, closed_lift}
+use Rattle.nichols_lift.proofs.Leading.{following_start, place_within, following-cross, closed_lift}
 use Rattle.nichols_lift.proofs.lifting.lift_by.Goals as goal
 
 pub loop-place-init : goal.loop-place-init

@@ -1,7 +1,7 @@
 use Rattle.std.proofs.Common.{◌≡◌, ◌≤◌, ◌<◌, ◌∙◌, ◌++◌, ◌∷◌, [], ℕ, List, sym, ap, ap₂, subst, arith}
 use Rattle.std.specs.List.{AllByRecursion}
 use Rattle.nichols_braid.specs.Kernel.{is_in_kernel}
-use Rattle.nichols_braid.proofs.Candidates.{candidates_first, with_letters}
+use Rattle.nichols_braid.proofs.Candidates.{candidates_first}
 use Rattle.nichols_tensor.specs.Words.{letter_limit}
 use Rattle.nichols_plain.proofs.Steps.{basis_has_room, next_columns, next_candidates}
 use Rattle.nichols_plain.proofs.degree.plain_degree.Goals as goal

@@ -1,13 +1,14 @@
 use Rattle.std.proofs.Common.{◌≡◌, ◌^◌, ◌<◌, ◌∙◌, ℕ, List, length, sym, ap, ap₂, subst}
+use Rattle.std.proofs.lemmas.List.Elements.{All-from_recursion}
 use Rattle.nichols_field.specs.Field.{IsElement}
 use Rattle.nichols_field.proofs.FieldLaws.{one_is_element}
-use Rattle.nichols_tensor.specs.Combination.{Term, AllElements, single}
+use Rattle.nichols_tensor.specs.Combination.{Term, single}
 use Rattle.nichols_tensor.specs.Words.{HasDegree}
-use Rattle.nichols_echelon.specs.Cells.{Cell, IsRow}
+use Rattle.nichols_echelon.specs.Cells.{IsRow}
 use Rattle.nichols_plain.specs.Columns.{numbered}
 use Rattle.nichols_plain.proofs.Numbers.{numbered_is_row}
-use Rattle.nichols_plain.proofs.Steps.{all_index, row_is, row_elements, row_entries}
-use Rattle.nichols_plain.proofs.images.image_row.Goals.{In-None, After-drop-single-inside-2}
+use Rattle.nichols_plain.proofs.Steps.{row_is, row_elements, row_entries}
+use Rattle.nichols_plain.proofs.images.image_row.Goals.{After-drop-single-inside-2}
 use Rattle.nichols_plain.proofs.images.image_row.Goals as goal
 
 pub single-requires : goal.single-requires
@@ -19,7 +20,7 @@ column_of-requires-clause-columns c =
     subst (HasDegree (length c.args.word.now)) (sym c.terms-term-items.ensures.same) (c.in_ok-image.ensures.degree (length c.args.word.now) c.in_ok-single.ensures.degree) in
     let size : length c.term.inside.word ≡ length c.args.word.now =
     ap (λ (t : Term). length t.word) (c.term.view_is ∙ c.term-item.is)
-    ∙ all_index (λ (t : Term). length t.word ≡ length c.args.word.now) c.terms-term-items.result.now c.loop-term.term-index c.term-item.result degree c.loop-term-test.true in
+    ∙ All-from_recursion (λ (t : Term). length t.word ≡ length c.args.word.now) c.terms-term-items.result.now degree c.loop-term.term-index c.term-item.result c.loop-term-test.true in
     subst (λ e. e < 2 ^ 32) (sym (ap₂ (λ n l. n ^ l) c.letters.ensures size)) c.requires.columns
 
 pub unreachable-requires : goal.unreachable-requires

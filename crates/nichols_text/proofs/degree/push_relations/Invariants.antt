@@ -1,7 +1,7 @@
 use Rattle.std.proofs.Common.{◌≡◌, ◌++◌, take, codes}
 use Rattle.std.specs.Prelude.{decimal}
 use Rattle.std.specs.List.{flat_map}
-use Rattle.nichols_text.specs.Words.{word_text, term_text, relation_line}
+use Rattle.nichols_text.specs.Words.{relation_line}
 use Rattle.nichols_text.proofs.degree.push_relations.Given as goal
 
 abbrev pub invariant-loop-relation : goal.invariant-loop-relation

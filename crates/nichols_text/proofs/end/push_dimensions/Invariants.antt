@@ -1,7 +1,6 @@
 use Rattle.std.proofs.Common.{◌≡◌, ◌++◌, take, codes}
 use Rattle.std.specs.Prelude.{decimal}
 use Rattle.std.specs.List.{flat_map}
-use Rattle.nichols_text.specs.Words.{word_text, term_text, relation_line}
 use Rattle.nichols_text.proofs.end.push_dimensions.Given as goal
 
 abbrev pub invariant-loop-dimension : goal.invariant-loop-dimension

@@ -1,9 +1,7 @@
-use Rattle.std.proofs.Common.{◌≡◌, ◌∙◌, sym, ap, inr, map, length, List, Some, None, Vec, Global}
-use Rattle.std.specs.Prelude.{ℤ}
+use Rattle.std.proofs.Common.{◌∙◌, sym, ap, inr, map}
 use Rattle.std.proofs.lemmas.List.{length-map}
 use Rattle.nichols_braid.specs.Faults.{cocycle_table}
 use Rattle.nichols_braid.specs.Given.{given}
-use Rattle.nichols_braid.specs.Tables.{RackEntries}
 use Rattle.nichols_braid.proofs.Entries.{residues_are_table}
 use Rattle.nichols_braid.proofs.Made.{HasRack, without_rack, not_bijective, not_distributive, without_cocycle, lawless, accepted_table, made_table}
 use Rattle.nichols_braid.proofs.braid.Braid.new.Goals as goal

@@ -1,4 +1,4 @@
-use Rattle.std.proofs.Common.{◌<◌, ◌∙◌, sym}
+use Rattle.std.proofs.Common.{◌∙◌, sym}
 use Rattle.nichols_tensor.specs.Words.{up_to}
 use Rattle.nichols_braid.specs.Faults.{first_answer, rack_fault_at, rack_fault}
 use Rattle.nichols_braid.proofs.Search.{first_answer-found, first_answer-more}

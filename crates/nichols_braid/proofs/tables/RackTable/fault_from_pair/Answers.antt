@@ -1,6 +1,5 @@
-use Rattle.std.proofs.Common.{◌<◌, ◌∙◌, sym}
-use Rattle.nichols_tensor.specs.Words.{up_to}
-use Rattle.nichols_braid.specs.Faults.{first_answer, rack_fault_at, rack_fault}
+use Rattle.std.proofs.Common.{◌∙◌, sym}
+use Rattle.nichols_braid.specs.Faults.{rack_fault_at, rack_fault}
 use Rattle.nichols_braid.proofs.Search.{first_answer-found, first_answer-more}
 use Rattle.nichols_braid.proofs.tables.RackTable.fault_from_pair.Goals as goal
 

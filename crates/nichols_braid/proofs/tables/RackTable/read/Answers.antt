@@ -1,8 +1,6 @@
-use Rattle.std.proofs.Common.{◌≡◌, ◌≢◌, ◌<◌, ◌≤◌, ◌∙◌, sym, ap, arith, map, length, Some, None, List, ℕ, false}
-use Rattle.std.specs.Prelude.{Option, option_map, ℤ}
+use Rattle.std.proofs.Common.{◌≡◌, ◌<◌, ◌∙◌, sym, arith, map, length}
 use Rattle.std.proofs.lemmas.Bool.Decides.{nat_tests}
 use Rattle.std.proofs.lemmas.List.{length-map}
-use Rattle.nichols_braid.specs.Faults.{rows_letters, rack_table}
 use Rattle.nichols_braid.proofs.Entries.{letters_are_table, no_rows, many_rows, rack_from_rows}
 use Rattle.nichols_braid.proofs.tables.RackTable.read.Goals as goal
 

@@ -1,10 +1,9 @@
-use Rattle.std.proofs.Common.{◌≡◌, ◌∙◌, ap, ap₂, sym, subst, List, [], ◌∷◌, ◌++◌, ℕ, length, take, drop, take-append-drop, ◌/◌, IfOk, arith}
+use Rattle.std.proofs.Common.{◌≡◌, ◌∙◌, ap₂, sym, subst, [], ◌∷◌, ◌++◌, take-append-drop, IfOk, arith}
 use Rattle.std.proofs.lemmas.List.{nil_from_length}
 use Rattle.std.proofs.lemmas.Result.{IfOk-weaker}
 use Rattle.nichols_field.proofs.FieldLaws.{one_is_element}
-use Rattle.nichols_tensor.specs.Combination.{Term, Combination, AllAmong, AllElements, HasSameValues, words_of}
-use Rattle.nichols_tensor.specs.WordOrder.{IsOrdered}
-use Rattle.nichols_words.proofs.Sums.{among_same, among_answer, one_term, two_halves}
+use Rattle.nichols_tensor.specs.Combination.{Term, AllAmong, AllElements, HasSameValues, words_of}
+use Rattle.nichols_words.proofs.Sums.{among_answer, one_term, two_halves}
 use Rattle.nichols_words.proofs.comb.Comb.+sum_of.Goals as goal
 
 pub returns-in-None-clause-words : goal.returns-in-None-clause-words

@@ -4,7 +4,6 @@ use Rattle.nichols_tensor.specs.Combination.{Combination, AllAmong, AllElements,
 use Rattle.nichols_tensor.specs.WordOrder.{IsOrdered}
 use Rattle.nichols_tensor.proofs.Ordered.{among_sum}
 use Rattle.nichols_tensor.proofs.Over.{over_of_both, degree_of_both}
-use Rattle.nichols_words.proofs.comb.Comb.add_scaled.Goals.{In_ok-terms}
 use Rattle.nichols_words.proofs.comb.Comb.add_scaled.Goals as goal
 
 among : (k : FieldValue) → IsField k → (by : ℕ) (f g h left right : Combination) → left ≡ f → right ≡ g → AllElements k h → IsOrdered h → ((w : List ℕ) → value_at k h w ≡ plus k (value_at k left w) (times k by (value_at k right w))) → AllAmong h (words_of f ++ words_of g)

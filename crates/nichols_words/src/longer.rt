@@ -1,0 +1,48 @@
+//! Words with a letter behind.
+
+ghost use Rattle.std.specs.Prelude.{◌≡◌, ◌<◌, ◌≤◌, ◌++◌, ◌∷◌, [], IfOk, length, map};
+ghost use Rattle.std.specs.Result.{OnOk};
+ghost use Rattle.std.specs.List.{AllByRecursion};
+ghost use Rattle.nichols_tensor.specs.Words.{IsLetterOf, letter_limit, up_to, with_letters};
+ghost use Rattle.nichols_words.specs.Word.{word_limit};
+
+use crate::Word;
+use std::alloc::{AllocError, Global};
+
+impl Word {
+    /// The word with a letter behind.
+    pub fn followed_by(&self, letter: u8) -> Word
+        requires room { length self.now < word_limit }
+        requires letter { IsLetterOf letter_limit letter }
+        ensures { result ≡ self.now ++ letter ∷ [] }
+    {
+        let mut longer = *self;
+        let _room = longer.push(letter);
+        longer
+    }
+}
+
+/// Puts a word with each letter behind, behind the words that are there.
+fn put_followed(longer: &mut Vec<Word>, letters: u8, word: &Word) -> Result<(), AllocError>
+    requires letters { letters ≤ letter_limit }
+    requires room { length word.now < word_limit }
+    ensures { OnOk result (longer.new.items ≡ longer.old.items ++ map (λ b. word.now ++ b ∷ []) (up_to letters)) }
+{
+    for i in 0..letters {
+        longer.push(word.followed_by(i + 1))?;
+    }
+    Ok(())
+}
+
+/// The words of a list, each with each of the letters from 1 to `letters` behind, in order.
+pub fn with_letters(alloc: Global, letters: u8, words: &[Word]) -> Result<Vec<Word>, AllocError>
+    requires letters { letters ≤ letter_limit }
+    requires room { AllByRecursion (λ w. length w < word_limit) words.now }
+    ensures { IfOk result (λ longer. longer.items ≡ with_letters letters words.now) }
+{
+    let mut longer = Vec::new(alloc);
+    for word in words {
+        put_followed(&mut longer, letters, word)?;
+    }
+    Ok(longer)
+}
