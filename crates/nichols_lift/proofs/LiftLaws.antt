@@ -2,7 +2,8 @@
 use Rattle.std.proofs.Common.{sym, ◌∙◌}
 use Rattle.nichols_tensor.proofs.Entries.{contains_from_in}
 use Rattle.nichols_braid.specs.Least.{candidates}
-use Rattle.nichols_braid.proofs.Prefixes.{prefix_is_least, in_basis, basis_word_is_candidate, stays_empty}
+use Rattle.nichols_braid.proofs.Prefixes.{prefix_is_least, basis_word_is_candidate, stays_empty}
+use Rattle.nichols_braid.proofs.Reduction.{in_basis}
 use Rattle.nichols_lift.specs.Laws.{ReducedListsAgree, SymmetrizerFactors, KernelByDerivations, KernelIsRightIdeal, ReadingsAgree, PrefixesAreLeast, LeastWordsAreCandidates, EmptyDegreesStayEmpty}
 use Rattle.nichols_lift.proofs.Factorisation.{factors}
 use Rattle.nichols_lift.proofs.Kernel.{killed_in_kernel, in_kernel_killed, in_kernel-times_letter}
@@ -30,7 +31,7 @@ prefixes_are_least braid is vanishes reading u v over least = prefix_is_least br
 
 pub least_words_are_candidates : LeastWordsAreCandidates
 least_words_are_candidates braid is vanishes reading m w size over least =
-    contains_from_in (candidates vanishes braid m) w (basis_word_is_candidate braid is.field vanishes (reading_is_ideal braid is vanishes reading) m w (in_basis braid vanishes m w size over least))
+    contains_from_in (candidates vanishes braid m) w (basis_word_is_candidate braid is.field vanishes (reading_is_ideal braid is vanishes reading) m w (in_basis vanishes braid m w size over least))
 
 pub empty_degrees_stay_empty : EmptyDegreesStayEmpty
 empty_degrees_stay_empty braid is vanishes reading m n less none = stays_empty braid is.field vanishes (reading_is_ideal braid is vanishes reading) m n less none

@@ -1,4 +1,4 @@
-use Rattle.std.proofs.Common.{◌≡◌, ◌-◌, ◌∙◌, ℕ, List, get_or, set, sym, ap, ap₂}
+use Rattle.std.proofs.Common.{◌-◌, ◌∙◌, ℕ, List, set, ap, ap₂}
 use Rattle.nichols_braid.specs.Braid.{act, scalar}
 use Rattle.nichols_lift.proofs.Leading.{crossed_there, scalar_there}
 use Rattle.nichols_lift.proofs.crossing.cross_at.Goals as goal

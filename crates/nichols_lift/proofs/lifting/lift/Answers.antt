@@ -1,4 +1,4 @@
-use Rattle.std.proofs.Common.{◌≡◌, ◌<◌, ◌∙◌, ℕ, List, length, refl, sym, ap, ap₂, subst}
+use Rattle.std.proofs.Common.{◌<◌, ◌∙◌, sym, ap, subst}
 use Rattle.nichols_field.specs.Field.{IsElement, times}
 use Rattle.nichols_field.proofs.FieldLaws.{one_is_element}
 use Rattle.nichols_tensor.specs.Combination.{Term}

@@ -1,4 +1,4 @@
-use Rattle.std.proofs.Common.{◌≡◌, ◌+◌, ◌<◌, ◌∙◌, ℕ, true, false, refl, sym, arith}
+use Rattle.std.proofs.Common.{◌+◌, ◌∙◌, refl, sym, arith}
 use Rattle.nichols_lift.proofs.Perms.{rearrangement_if_all, more_found, none_found}
 use Rattle.nichols_lift.proofs.perm.is_rearrangement.Goals as goal
 

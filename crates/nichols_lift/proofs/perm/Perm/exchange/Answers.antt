@@ -1,4 +1,4 @@
-use Rattle.std.proofs.Common.{◌≡◌, ◌∙◌, List, ℕ, take, refl, sym, ap, subst}
+use Rattle.std.proofs.Common.{◌∙◌, refl, sym, ap, subst}
 use Rattle.nichols_braid.specs.Lift.{IsDescentAt, exchanged}
 use Rattle.nichols_lift.proofs.Perms.{exchanged_array}
 use Rattle.nichols_lift.proofs.perm.Perm.exchange.Goals as goal
