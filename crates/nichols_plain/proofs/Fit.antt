@@ -1,5 +1,5 @@
 -- What the split of the images of candidates says of least words and normal forms.
-use Rattle.std.proofs.Common.{◌≡◌, ◌≢◌, ℕ, ◌<◌, Bool, true, false, List, [], ◌∷◌, map, length, refl, sym, ◌∙◌, ap, ◌⊎◌}
+use Rattle.std.proofs.Common.{◌≡◌, ℕ, ◌<◌, true, false, List, [], ◌∷◌, length, refl, sym, ◌∙◌, ap}
 use Rattle.std.specs.List.{AllByRecursion}
 use Rattle.nichols_field.specs.Field.{FieldValue, IsField, plus, times}
 use Rattle.nichols_tensor.specs.Combination.{single}

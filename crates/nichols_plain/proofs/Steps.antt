@@ -1,13 +1,11 @@
 -- What the loops over words, rows and candidates come to.
-use Rattle.std.proofs.Common.{◌≡◌, ◌≢◌, ℕ, zero, suc, ◌+◌, ◌*◌, ◌^◌, ◌<◌, ◌≤◌, Bool, true, false, cond, List, [], ◌∷◌, ◌++◌, length, map, take, get_or, refl, sym, ◌∙◌, ap, ap₂, subst, arith, add-one}
+use Rattle.std.proofs.Common.{◌≡◌, ℕ, zero, suc, ◌+◌, ◌*◌, ◌^◌, ◌<◌, ◌≤◌, Bool, true, false, cond, List, [], ◌∷◌, length, map, take, refl, sym, ◌∙◌, ap, ap₂, subst, arith, add-one}
 use Rattle.std.specs.List.{AllByRecursion, flat_map, filter}
-use Rattle.std.proofs.lemmas.List.{take_more, take_all, append-nil, length-append}
-use Rattle.std.proofs.lemmas.Grind.{flat_map-append}
+use Rattle.std.proofs.lemmas.List.{take_all, length-append}
 use Rattle.std.proofs.Math.Nat.{pow-zero, pow-suc, pow-le-pow_right}
 use Rattle.nichols_field.specs.Field.{FieldValue}
 use Rattle.nichols_field.proofs.Primes.{two_bounds}
 use Rattle.nichols_tensor.specs.Combination.{Combination, HasSameValues, AllElements, single}
-use Rattle.nichols_tensor.specs.Combination.{AllNonzero as AllTermsNonzero}
 use Rattle.nichols_tensor.specs.WordOrder.{IsRising, IsOrdered}
 use Rattle.nichols_tensor.specs.Words.{up_to, words, IsWordOver, with_letters}
 use Rattle.nichols_tensor.proofs.Tests.{all_of_entries}

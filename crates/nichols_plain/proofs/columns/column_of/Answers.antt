@@ -1,4 +1,4 @@
-use Rattle.std.proofs.Common.{◌≡◌, ◌+◌, ◌-◌, ◌*◌, ◌^◌, ◌<◌, ℕ, List, length, take, get_or, refl, sym, ◌∙◌, ap₂, subst, arith}
+use Rattle.std.proofs.Common.{◌≡◌, ◌+◌, ◌-◌, ◌*◌, ◌^◌, ◌<◌, ℕ, List, length, get_or, refl, sym, ◌∙◌, ap₂, subst, arith}
 use Rattle.nichols_tensor.specs.Words.{IsLetterOf, IsWordOver}
 use Rattle.nichols_tensor.proofs.Over.{letter_over}
 use Rattle.nichols_plain.proofs.Numbers.{number_more, number_bound, number_fits}

@@ -1,4 +1,4 @@
-use Rattle.std.proofs.Common.{◌≡◌, ◌<◌, ◌≤◌, ◌∙◌, [], List, length, refl, sym, ap, ap₂, subst}
+use Rattle.std.proofs.Common.{◌∙◌, length, refl, ap}
 use Rattle.nichols_plain.proofs.Steps.{candidates_have_columns, few_rows, candidates_are_rising}
 use Rattle.nichols_plain.proofs.Sorting.{AreSplit, cells_within, sorted-least, sorted-other, sorted_basis, sorted_relations}
 use Rattle.nichols_plain.proofs.degree.sorted_out.Goals.{in-Independent+in_ok-push-in-Independent, in-Depends+in_ok-form-in-Depends+in_ok-push-in-Depends}

@@ -1,8 +1,8 @@
-use Rattle.std.proofs.Common.{◌≡◌, ◌^◌, ◌<◌, ◌∙◌, ℕ, List, length, sym, ap, ap₂, subst}
+use Rattle.std.proofs.Common.{◌≡◌, ◌^◌, ◌<◌, ◌∙◌, length, sym, ap, ap₂, subst}
 use Rattle.std.proofs.lemmas.List.Elements.{All-from_recursion}
 use Rattle.nichols_field.specs.Field.{IsElement}
 use Rattle.nichols_field.proofs.FieldLaws.{one_is_element}
-use Rattle.nichols_tensor.specs.Combination.{Term, single}
+use Rattle.nichols_tensor.specs.Combination.{Term}
 use Rattle.nichols_tensor.specs.Words.{HasDegree}
 use Rattle.nichols_echelon.specs.Cells.{IsRow}
 use Rattle.nichols_plain.specs.Columns.{numbered}
