@@ -14,3 +14,6 @@ pub use end::{EndLine, end_text};
 pub use header::header_text;
 pub use line::{Line, memory_line, not_built_line, read_fault_line, usage_line};
 pub use refusal::not_distributive_text;
+
+#[cfg(test)]
+mod tests;

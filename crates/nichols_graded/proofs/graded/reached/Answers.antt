@@ -1,5 +1,4 @@
-use Rattle.std.proofs.Common.{◌≡◌, ◌≤◌, ◌<◌, ◌∙◌, sym, subst, arith, true, false}
-use Rattle.std.specs.Prelude.{IsTrue}
+use Rattle.std.proofs.Common.{◌≡◌, ◌∙◌, sym, subst, arith, true, false}
 use Rattle.nichols_braid.specs.Braid.{IsBraid}
 use Rattle.nichols_graded.proofs.Reached.{empty_is, filled_is, end_closed, end_limited, end_none}
 use Rattle.nichols_graded.proofs.graded.reached.Goals as goal

@@ -1,5 +1,4 @@
 use Rattle.std.proofs.Common.{◌≡◌, ◌++◌, take, codes}
-use Rattle.std.specs.Prelude.{decimal}
 use Rattle.std.specs.List.{flat_map}
 use Rattle.nichols_text.specs.Words.{term_text}
 use Rattle.nichols_text.proofs.word.push_form.Given as goal

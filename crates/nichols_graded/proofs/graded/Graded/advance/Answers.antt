@@ -1,4 +1,4 @@
-use Rattle.std.proofs.Common.{◌≡◌, ◌<◌, ◌≤◌, ◌∙◌, sym, ap, subst, arith, false, suc}
+use Rattle.std.proofs.Common.{◌∙◌, sym, ap, subst, arith, suc}
 use Rattle.std.specs.Prelude.{is_some}
 use Rattle.nichols_block.specs.Rule.{rule_of}
 use Rattle.nichols_block.specs.Levels.{LevelsValue}
