@@ -22,7 +22,7 @@ use Rattle.nichols_braid.specs.declared.faults.RackLaw.TheVariants.{Bijective, D
 
 -- ---- entries of tables
 
-place_inside : (n i j : ℕ) → IsLetterOf n i → IsLetterOf n j → (i - 1) * n + (j - 1) < n * n
+pub place_inside : (n i j : ℕ) → IsLetterOf n i → IsLetterOf n j → (i - 1) * n + (j - 1) < n * n
 place_inside n zero j h k = absurd (omega arith)
 place_inside n (suc i) j h k =
     let less : suc i * n ≤ n * n = mul-le-mul h.1 (omega arith) in

@@ -22,12 +22,12 @@ letter_is n (pos v) a e = at (nat_le 1 v) (nat_le v n) refl refl e
 letter_is n (negsuc v) a e = cc
 
 -- both lists are there where their join is
-joined : {X : Type 0} (o p : Option (List X)) (zs : List X) → put_before o p ≡ Some zs → (xs : List X) × (ys : List X) × (o ≡ Some xs) × (p ≡ Some ys) × (xs ++ ys ≡ zs)
+pub joined : {X : Type 0} (o p : Option (List X)) (zs : List X) → put_before o p ≡ Some zs → (xs : List X) × (ys : List X) × (o ≡ Some xs) × (p ≡ Some ys) × (xs ++ ys ≡ zs)
 joined None p zs e = cc
 joined (Some xs) None zs e = cc
 joined (Some xs) (Some ys) zs e = (xs, ys, refl, refl, cc)
 
-row_is : (n : ℕ) (row : List ℤ) (xs : List ℕ) → row_letters n row ≡ Some xs → (length xs ≡ length row) × AllByRecursion (IsLetterOf n) xs
+pub row_is : (n : ℕ) (row : List ℤ) (xs : List ℕ) → row_letters n row ≡ Some xs → (length xs ≡ length row) × AllByRecursion (IsLetterOf n) xs
 row_is n [] [] e = (refl, tt)
 row_is n [] (x ∷ xs) e = cc
 row_is n (v ∷ row) xs e = at (letter_of n v) (row_letters n row) refl refl e (λ ys b. row_is n row ys b)

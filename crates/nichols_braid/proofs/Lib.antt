@@ -25,3 +25,5 @@ pub mod Spanning
 pub mod Rows
 pub mod LeastLaws
 pub mod FirstDegree
+pub mod Complete
+pub mod AsGiven

@@ -17,3 +17,4 @@ pub mod Laws
 pub mod LeastLaws
 pub mod End
 pub mod Rows
+pub mod TableLaws

@@ -1,7 +1,19 @@
-//! Laws of the symmetrizer and of the skew derivations, for every braid and every length.
+//! Laws of braids and their tables, and of the symmetrizer and the skew derivations for every braid and every length.
 
+ghost use Rattle.nichols_braid.specs.TableLaws.{BraidsAreAccepted, AcceptedTablesAreBraids};
 ghost use Rattle.nichols_braid.specs.Laws.{PermutationsHoldEachOnce, SymmetrizerIsLinear, DerivationsAreLinear, DerivationRule, KilledIsRightIdeal, KilledIsDecided, KernelIsDecided, KilledIsLinear, KernelIsLinear, KilledIsIdeal};
 ghost use Rattle.nichols_braid.specs.LeastLaws.{LeastWordsAreTested, BasisHasLeastWords, BasisIsIndependent, NormalFormsAreUnique, NormalFormsTellClasses, ZeroHasNoTerms, NormalFormIsLinear, LeastWordsAreNormal, AgreeingTestsReadAlike, BasisIsAmongCandidates, RelationsRise};
+
+/// The tables of every braid, given row by row, are that braid.
+#[tactic(auto, using(crate::proofs::Complete::braids_are_accepted))]
+pub fn braids_are_accepted()
+    ensures { BraidsAreAccepted }
+{}
+
+/// What is accepted is a braid over the given field, with the given letters and scalars at their places.
+pub fn accepted_tables_are_braids()
+    ensures { AcceptedTablesAreBraids }
+{}
 
 /// The quantum symmetrizer is linear.
 #[tactic(auto, using(crate::proofs::BraidLaws::symmetrizer_is_linear))]
