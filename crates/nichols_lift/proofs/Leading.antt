@@ -1,5 +1,5 @@
 -- The loops that cross letter by letter: every descending list of what is left leads from there to the lift.
-use Rattle.std.proofs.Common.{◌≡◌, ℕ, zero, suc, ◌+◌, ◌-◌, ◌<◌, ◌≤◌, List, [], ◌∷◌, length, take, drop, get_or, set, refl, sym, ◌∙◌, ap, ap₂, subst, arith, Option, None, Some}
+use Rattle.std.proofs.Common.{◌≡◌, ℕ, zero, suc, ◌+◌, ◌-◌, ◌<◌, ◌≤◌, List, [], ◌∷◌, length, drop, get_or, set, refl, sym, ◌∙◌, ap, ap₂, subst, arith, Option, None, Some}
 use Rattle.std.proofs.Math.Seq.{drop-cons}
 use Rattle.nichols_field.specs.Field.{IsElement, times}
 use Rattle.nichols_tensor.specs.Combination.{Term}

@@ -1,5 +1,5 @@
 -- Both readings of what is zero give the same algebra, and each of them is an ideal.
-use Rattle.std.proofs.Common.{◌≡◌, suc, sym, subst, inl, inr}
+use Rattle.std.proofs.Common.{suc, sym, subst, inl, inr}
 use Rattle.nichols_braid.specs.Braid.{BraidValue, IsBraid}
 use Rattle.nichols_braid.specs.Kernel.{Vanishing, is_in_kernel, is_killed}
 use Rattle.nichols_braid.specs.IdealTest.{IsIdealTest}

@@ -1,5 +1,5 @@
 -- The report that is due for a command line and a document.
-use Rattle.std.specs.Prelude.{ℕ, suc, ◌-◌, Bool, false, ◌&&◌, List, [], ◌∷◌, ◌++◌, map, length, sum, codes, Option, None, Some, Result, Ok, Err, if◌then◌else◌, nat_lt, nat_le, ◌+◌, ◌*◌}
+use Rattle.std.specs.Prelude.{ℕ, ◌-◌, Bool, false, ◌&&◌, List, [], ◌∷◌, ◌++◌, map, length, sum, codes, Option, None, Some, Result, Ok, Err, if◌then◌else◌, nat_lt, nat_le, ◌+◌, ◌*◌}
 use Rattle.std.specs.Str.{bytes_eq}
 use Rattle.std.specs.List.{fold, list_all}
 use Rattle.std.specs.Char.{is_ascii_digit}

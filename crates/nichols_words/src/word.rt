@@ -12,7 +12,7 @@ use std::marker::Model;
 /// Words are ordered by length, and words of one length by their letters from the left.
 #[derive(Clone, Copy)]
 pub struct Word {
-    len: usize,
+    len: u32,
     letters: [u8; 60],
 }
 
@@ -49,7 +49,7 @@ impl Word {
         ensures value { result ≡ length self.now }
         ensures limit { result ≤ word_limit }
     {
-        self.len
+        self.len as usize
     }
 
     /// Whether the word has no letters.
@@ -75,7 +75,7 @@ impl Word {
         ensures same { result.now ≡ self.now }
         ensures word { IsWord self.now }
     {
-        &self.letters[..self.len]
+        &self.letters[..self.len()]
     }
 
     /// The word of the first k letters.
@@ -85,7 +85,10 @@ impl Word {
     {
         let mut letters = self.letters;
         letters[k..].fill(0);
-        Word { len: k, letters }
+        Word {
+            len: k as u32,
+            letters,
+        }
     }
 
     /// Puts another letter in the place of that at index k, which counts from 0.
@@ -107,7 +110,7 @@ impl Word {
         if self.len == 60 {
             return false;
         }
-        self.letters[self.len] = letter;
+        self.letters[self.len as usize] = letter;
         self.len += 1;
         true
     }

@@ -1,5 +1,4 @@
-use Rattle.std.proofs.Common.{◌≡◌, ◌∙◌, subst, List, ℕ}
-use Rattle.std.specs.Prelude.{Option, IfOk}
+use Rattle.std.proofs.Common.{◌∙◌, subst}
 use Rattle.nichols_io.specs.Bytes.{AppendsProperPrefix}
 use Rattle.nichols_top.specs.Output.{fault, no_memory}
 use Rattle.nichols_top.proofs.output.put_piece.Goals as goal

@@ -1,6 +1,4 @@
-use Rattle.std.proofs.Common.{refl, ◌≡◌, ◌<◌, ◌≤◌, ◌+◌, ◌^◌, ◌++◌, ◌∷◌, [], ◌∙◌, ◌-◌, ap, ap₂, sym, subst, arith, List, ℕ, sum, None, Some, length, length-append}
-use Rattle.std.specs.Prelude.{Option}
-use Rattle.std.specs.Io.KnownBytes.{Appends}
+use Rattle.std.proofs.Common.{refl, ◌≡◌, ◌<◌, ◌+◌, ◌^◌, ◌++◌, ◌∷◌, [], ◌∙◌, ◌-◌, ap, ap₂, sym, subst, arith, sum, None, Some, length, length-append}
 use Rattle.std.specs.List.{AllByRecursion}
 use Rattle.nichols_io.specs.Counts.{Rose}
 use Rattle.nichols_text.specs.declared.end.EndLine.TheVariants.{Closed, DegreeLimit}

@@ -1,4 +1,3 @@
-use Rattle.std.proofs.Common.{Err}
 use Rattle.nichols_text.specs.Lines.{not_distributive_text}
 use Rattle.nichols_input.specs.Document.{braid_in}
 use Rattle.nichols_top.proofs.RunEnds.{unbuilt_ends, refused_ends, braid_ends, memory_ends, braid_has_piece}

@@ -1,4 +1,4 @@
-use Rattle.std.proofs.Common.{◌≡◌, ◌∙◌, ap, sym, map, string_bytes, Some, None, Err, arith}
+use Rattle.std.proofs.Common.{◌∙◌, ap, sym, map, string_bytes, Err}
 use Rattle.nichols_io.specs.Counts.{Rose}
 use Rattle.nichols_input.specs.Document.{braid_in}
 use Rattle.nichols_top.proofs.RunEnds.{usage_ends, long_ends, fault_ends, read_ends, memory_ends, under_has_piece, accepted_limit, read_whole, longer, answered}
