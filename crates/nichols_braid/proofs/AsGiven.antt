@@ -109,7 +109,7 @@ row_same n (v ∷ row) xs e j less = at (letter_of n v) (row_letters n row) refl
     at (Some x) (Some ys) a b e zero less ih = let same : x ∷ ys ≡ xs = cc in subst (λ zs. pos (slice_index zs 0) ≡ v) same (letter_same n v x a)
     at (Some x) (Some ys) a b e (suc j) less ih = let same : x ∷ ys ≡ xs = cc in subst (λ zs. pos (slice_index zs (suc j)) ≡ slice_index_or row j (pos 0)) same (ih ys b j (omega arith))
 
-letters_laid : (n : ℕ) (rows : List (List ℤ)) (xs : List ℕ) → rows_letters n rows ≡ Some xs → IsLaid IsSameNumber n rows xs
+pub letters_laid : (n : ℕ) (rows : List (List ℤ)) (xs : List ℕ) → rows_letters n rows ≡ Some xs → IsLaid IsSameNumber n rows xs
 letters_laid n [] xs e = tt
 letters_laid n (row ∷ rows) xs e = at (nat_eq (length row) n) refl e (λ ys b. letters_laid n rows ys b)
   where
@@ -150,11 +150,11 @@ residues_laid k n (row ∷ rows) xs e = at (nat_eq (length row) n) refl e (λ ys
         )
 
 -- the table of the scalars is square, and has the residues at their places
-record HasScalars (k : FieldValue) (n : ℕ) (given : GivenScalars) (xs : List ℕ) : Type 0 where
-  places : HasPlaces n given
-  values : (i j : ℕ) → IsLetterOf n i → IsLetterOf n j → entry n xs i j ≡ residue k (scalar_given given i j)
+pub record HasScalars (k : FieldValue) (n : ℕ) (given : GivenScalars) (xs : List ℕ) : Type 0 where
+  pub places : HasPlaces n given
+  pub values : (i j : ℕ) → IsLetterOf n i → IsLetterOf n j → entry n xs i j ≡ residue k (scalar_given given i j)
 
-has_scalars : (k : FieldValue) (n : ℕ) (given : GivenScalars) (xs : List ℕ) → cocycle_table k n given ≡ Some xs → HasScalars k n given xs
+pub has_scalars : (k : FieldValue) (n : ℕ) (given : GivenScalars) (xs : List ℕ) → cocycle_table k n given ≡ Some xs → HasScalars k n given xs
 unfolding cocycle_table entry
 has_scalars k n (constant v) xs e =
     let same : replicate (n * n) (residue k v) ≡ xs = cc in
@@ -173,7 +173,7 @@ has_scalars k n (table rows) xs e = at (nat_eq (length rows) n) refl e
 
 -- ---- the braid
 
-has_letters : (n : ℕ) (rows : List (List ℤ)) (xs : List ℕ) → length rows ≡ n → IsLaid IsSameNumber n rows xs → (i j : ℕ) → IsLetterOf n i → IsLetterOf n j → pos (entry n xs i j) ≡ integer_at rows i j
+pub has_letters : (n : ℕ) (rows : List (List ℤ)) (xs : List ℕ) → length rows ≡ n → IsLaid IsSameNumber n rows xs → (i j : ℕ) → IsLetterOf n i → IsLetterOf n j → pos (entry n xs i j) ≡ integer_at rows i j
 unfolding entry
 has_letters n rows xs size laid i j li lj = laid_at IsSameNumber n rows xs laid (i - 1) (j - 1) (let h : (1 ≤ i) × (i ≤ n) = li in omega arith) (let h : (1 ≤ j) × (j ≤ n) = lj in omega arith)
 

@@ -1,26 +1,28 @@
--- Each braid is what its own rows are made to.
+-- Each braid is what the rows and scalars that give it are made to.
 use Rattle.std.proofs.Common.{◌≡◌, ◌≢◌, ℕ, zero, suc, ◌+◌, ◌-◌, ◌*◌, ◌<◌, ◌≤◌, Bool, true, false, cond, not, ◌&&◌, List, [], ◌∷◌, ◌++◌, map, length, take, refl, sym, ◌∙◌, ap, ap₂, subst, arith, Some, None, nat_eq, nat_lt, nat_le, append_assoc, append-nil}
-use Rattle.std.specs.Prelude.{Option, ℤ, pos, slice_index}
-use Rattle.std.specs.List.{list_all, flat_map}
+use Rattle.std.specs.Prelude.{Option, Ok, ℤ, pos, replicate, slice_index, slice_index_or}
+use Rattle.std.specs.List.{list_all, flat_map, AllByRecursion}
 use Rattle.std.specs.Option.{option_or}
 use Rattle.std.specs.Cmp.Derive.{both_true}
 use Rattle.std.proofs.Math.Nat.{suc-mul}
 use Rattle.std.proofs.Math.Seq.{take-suc}
-use Rattle.std.proofs.lemmas.List.{map-append, length-map, take_all}
+use Rattle.std.proofs.lemmas.List.{map-append, take_all}
 use Rattle.std.proofs.lemmas.Grind.{flat_map-append}
 use Rattle.std.proofs.lemmas.Bool.Decides.{nat_tests, Decides-eqb}
-use Rattle.nichols_field.specs.Field.{FieldValue, IsElement, residue}
-use Rattle.nichols_field.proofs.FieldLaws.{residue_of_element}
+use Rattle.nichols_field.specs.Field.{FieldValue, IsField, residue}
 use Rattle.nichols_tensor.specs.Members.{IsIn}
 use Rattle.nichols_tensor.specs.Words.{up_to, IsLetterOf}
 use Rattle.nichols_tensor.proofs.Entries.{each_of, from_map, from_flat_map}
-use Rattle.nichols_tensor.proofs.Letters.{from_up_to, up_to_length}
+use Rattle.nichols_tensor.proofs.Letters.{from_up_to}
+use Rattle.nichols_tensor.proofs.Tests.{map_same}
 use Rattle.nichols_braid.specs.Braid.{BraidValue, entry, act, scalar, IsBraid, IsRack}
-use Rattle.nichols_braid.specs.Faults.{first_answer, first_triple, letter_of, row_letters, rows_letters, put_first, put_before, rack_table, rack_fault_at, rack_fault, rows_residues, table, cocycle_table, cocycle_holds_at, is_cocycle}
-use Rattle.nichols_braid.specs.TableLaws.{rows_of, BraidsAreAccepted}
+use Rattle.nichols_braid.specs.Faults.{first_answer, first_triple, letter_of, row_letters, rows_letters, put_first, put_before, rack_table, rack_fault_at, rack_fault, rows_residues, GivenScalars, constant, table, cocycle_table, braid_of, cocycle_holds_at, is_cocycle}
+use Rattle.nichols_braid.specs.TableLaws.{HasPlaces, IsAsGiven, BraidsAreAccepted}
+use Rattle.nichols_braid.specs.Tables.{IsCocycleTable}
 use Rattle.nichols_braid.specs.declared.faults.BraidFault.TheVariants.{NotDistributive, Unbuilt}
 use Rattle.nichols_braid.specs.declared.faults.RackLaw.TheVariants.{Bijective, Distributive}
-use Rattle.nichols_braid.proofs.Entries.{few_rows}
+use Rattle.nichols_braid.proofs.AsGiven.{letters_laid, HasScalars, has_scalars, has_letters}
+use Rattle.nichols_braid.proofs.Entries.{few_rows, rows_are, residues_are_table}
 use Rattle.nichols_braid.proofs.Lists.{first_is_in, later_is_in}
 use Rattle.nichols_braid.proofs.Made.{made}
 
@@ -57,66 +59,98 @@ flat n at = flat_map (λ i. map (at i) (up_to n)) (up_to n)
 is_flat : (n : ℕ) (xs : List ℕ) → length xs ≡ n * n → flat n (entry n xs) ≡ xs
 is_flat n xs size = rows_taken n xs n (omega arith) ∙ take_all (n * n) xs (omega arith)
 
--- ---- the rows of a table are read as that table
+same_rows : (f g : ℕ → List ℕ) (is : List ℕ) → ((i : ℕ) → IsIn i is → f i ≡ g i) → flat_map f is ≡ flat_map g is
+same_rows f g [] h = refl
+same_rows f g (i ∷ is) h = ap₂ (λ xs ys. xs ++ ys) (h i (first_is_in i is)) (same_rows f g is (λ j l. h j (later_is_in j i is l)))
 
-letter_read : (n v : ℕ) → IsLetterOf n v → letter_of n (pos v) ≡ Some v
-letter_read n v l = at (nat_le 1 v) (nat_le v n) (let h : nat_le 1 v ≡ true = grind (arith, nat_tests, l.0) in h) (let h : nat_le v n ≡ true = grind (arith, nat_tests, l.1) in h)
+-- two tables with equal entries at all letters are one
+same_tables : (n : ℕ) (xs ys : List ℕ) → length xs ≡ n * n → length ys ≡ n * n → ((i j : ℕ) → IsLetterOf n i → IsLetterOf n j → entry n xs i j ≡ entry n ys i j) → xs ≡ ys
+same_tables n xs ys long size h =
+    sym (is_flat n xs long)
+    ∙ same_rows (λ i. map (entry n xs i) (up_to n)) (λ i. map (entry n ys i) (up_to n)) (up_to n) (λ i li.
+    map_same (entry n xs i) (entry n ys i) (up_to n) (λ j lj. h i j (from_up_to n i li) (from_up_to n j lj)))
+    ∙ is_flat n ys size
+
+-- ---- rows of letters are read
+
+-- the integer is one of n letters
+abbrev IsLetterAs : ℕ → ℤ → Type 0
+IsLetterAs n v = (a : ℕ) × IsLetterOf n a × (pos a ≡ v)
+
+letter_read : (n : ℕ) (v : ℤ) → IsLetterAs n v → (a : ℕ) × (letter_of n v ≡ Some a)
+letter_read n v (a, l, same) =
+    (a, ap (letter_of n) (sym same) ∙ at (nat_le 1 a) (nat_le a n) (let h : nat_le 1 a ≡ true = grind (arith, nat_tests, l.0) in h) (let h : nat_le a n ≡ true = grind (arith, nat_tests, l.1) in h))
   where
-    at : (b c : Bool) → b ≡ true → c ≡ true → cond (b && c) (Some v) None ≡ Some v
+    at : (b c : Bool) → b ≡ true → c ≡ true → cond (b && c) (Some a) None ≡ Some a
     at true true h k = refl
     at true false h k = cc
     at false c h k = cc
 
-letters_read : (n : ℕ) (at : ℕ → ℕ) (js : List ℕ) → ((j : ℕ) → IsIn j js → IsLetterOf n (at j)) → row_letters n (map (λ j. pos (at j)) js) ≡ Some (map at js)
-letters_read n at [] l = refl
-letters_read n at (j ∷ js) l = ap₂ put_first (letter_read n (at j) (l j (first_is_in j js))) (letters_read n at js (λ k i. l k (later_is_in k j js i)))
+row_read : (n : ℕ) (row : List ℤ) → ((j : ℕ) → j < length row → IsLetterAs n (slice_index_or row j (pos 0))) → (xs : List ℕ) × (row_letters n row ≡ Some xs)
+row_read n [] h = ([], refl)
+row_read n (v ∷ row) h =
+    let (a, first) = letter_read n v (h 0 (omega arith)) in
+    let (xs, rest) = row_read n row (λ j less. h (suc j) (omega arith)) in
+    (a ∷ xs, ap₂ put_first first rest)
 
-residues_read : (k : FieldValue) (at : ℕ → ℕ) (js : List ℕ) → ((j : ℕ) → IsIn j js → IsElement k (at j)) → map (residue k) (map (λ j. pos (at j)) js) ≡ map at js
-residues_read k at [] l = refl
-residues_read k at (j ∷ js) l = ap₂ (λ x xs. x ∷ xs) (residue_of_element k (at j) (l j (first_is_in j js))) (residues_read k at js (λ m i. l m (later_is_in m j js i)))
+-- rows of n integers that are all letters have a table
+rows_read : (n : ℕ) (rows : List (List ℤ)) → AllByRecursion (λ row. length row ≡ n) rows → ((i j : ℕ) → i < length rows → j < n → IsLetterAs n (slice_index_or (slice_index_or rows i []) j (pos 0))) →
+    (xs : List ℕ) × (rows_letters n rows ≡ Some xs)
+rows_read n [] long h = ([], refl)
+rows_read n (row ∷ rows) long h =
+    let (front, first) = row_read n row (λ j less. h 0 j (omega arith) (omega (arith, long.0))) in
+    let (back, rest) = rows_read n rows long.1 (λ i j less below. h (suc i) j (omega arith) below) in
+    (front ++ back, ap (λ b. cond b (put_before (row_letters n row) (rows_letters n rows)) None) ((Decides-eqb _ _).1 long.0) ∙ ap₂ put_before first rest)
 
-row_length : (n : ℕ) (at : ℕ → ℕ) → nat_eq (length (map (λ j. pos (at j)) (up_to n))) n ≡ true
-row_length n at = (Decides-eqb _ _).1 (length-map (up_to n) (λ j. pos (at j)) ∙ up_to_length n)
+-- the integer in row i and column j, counted from 0, is the letter of the braid there
+letter_there : (k : FieldValue) (rows : List (List ℤ)) (given : GivenScalars) (braid : BraidValue) → IsAsGiven k rows given braid → (i j : ℕ) → i < length rows → j < braid.letters →
+    IsLetterAs braid.letters (slice_index_or (slice_index_or rows i []) j (pos 0))
+letter_there k rows given braid as_given i j less below =
+    let li : IsLetterOf braid.letters (suc i) = (omega arith, omega (arith, as_given.letters.0)) in
+    let lj : IsLetterOf braid.letters (suc j) = (omega arith, omega arith) in
+    let e : suc i - 1 ≡ i = omega arith in
+    let f : suc j - 1 ≡ j = omega arith in
+    (act braid (suc i) (suc j), as_given.lawful.rack.closed (suc i) (suc j) li lj, as_given.rack (suc i) (suc j) li lj ∙ ap₂ (λ i j. slice_index_or (slice_index_or rows i []) j (pos 0)) e f)
 
-rows_read : (n : ℕ) (at : ℕ → ℕ → ℕ) (is : List ℕ) → ((i j : ℕ) → IsIn i is → IsIn j (up_to n) → IsLetterOf n (at i j)) →
-    rows_letters n (map (λ i. map (λ j. pos (at i j)) (up_to n)) is) ≡ Some (flat_map (λ i. map (at i) (up_to n)) is)
-rows_read n at [] l = refl
-rows_read n at (i ∷ is) l =
-    let row : List ℤ = map (λ j. pos (at i j)) (up_to n) in
-    let rows : List (List ℤ) = map (λ i. map (λ j. pos (at i j)) (up_to n)) is in
-    ap (λ b. cond b (put_before (row_letters n row) (rows_letters n rows)) None) (row_length n (at i))
-    ∙ ap₂ put_before (letters_read n (at i) (up_to n) (λ j lj. l i j (first_is_in i is) lj)) (rows_read n at is (λ k j lk lj. l k j (later_is_in k i is lk) lj))
+pos_same : (a b : ℕ) → pos a ≡ pos b → a ≡ b
+pos_same a b e = cc
 
-scalars_read : (k : FieldValue) (n : ℕ) (at : ℕ → ℕ → ℕ) (is : List ℕ) → ((i j : ℕ) → IsIn i is → IsIn j (up_to n) → IsElement k (at i j)) →
-    rows_residues k n (map (λ i. map (λ j. pos (at i j)) (up_to n)) is) ≡ Some (flat_map (λ i. map (at i) (up_to n)) is)
-scalars_read k n at [] l = refl
-scalars_read k n at (i ∷ is) l =
-    let row : List ℤ = map (λ j. pos (at i j)) (up_to n) in
-    let rows : List (List ℤ) = map (λ i. map (λ j. pos (at i j)) (up_to n)) is in
-    ap (λ b. cond b (put_before (Some (map (residue k) row)) (rows_residues k n rows)) None) (row_length n (at i))
-    ∙ ap₂ put_before (ap Some (residues_read k (at i) (up_to n) (λ j lj. l i j (first_is_in i is) lj))) (scalars_read k n at is (λ m j lm lj. l m j (later_is_in m i is lm) lj))
-
-rows_length : (n : ℕ) (at : ℕ → ℕ → ℕ) → length (rows_of n at) ≡ n
-rows_length n at = length-map (up_to n) (λ i. map (λ j. pos (at i j)) (up_to n)) ∙ up_to_length n
-
-rack_read : (braid : BraidValue) → IsBraid braid → rack_table (rows_of braid.letters (act braid)) ≡ Some braid.rack
-rack_read braid is =
+-- the rows that give a braid are read as its rack
+rack_read : (k : FieldValue) (rows : List (List ℤ)) (given : GivenScalars) (braid : BraidValue) → IsAsGiven k rows given braid → rack_table rows ≡ Some braid.rack
+rack_read k rows given braid as_given =
     let n : ℕ = braid.letters in
-    let rows : List (List ℤ) = rows_of n (act braid) in
-    let long : length rows ≡ n = rows_length n (act braid) in
-    few_rows rows (subst (λ m. 1 ≤ m) (sym long) is.least) (subst (λ m. m ≤ 24) (sym long) is.most)
+    let long : length rows ≡ n = as_given.letters.0 in
+    let (xs, read) = rows_read n rows as_given.letters.1 (letter_there k rows given braid as_given) in
+    let size : length xs ≡ n * n = (rows_are n rows xs read).0 ∙ ap (λ m. m * n) long in
+    few_rows rows (subst (λ m. 1 ≤ m) (sym long) as_given.lawful.least) (subst (λ m. m ≤ 24) (sym long) as_given.lawful.most)
     ∙ ap (λ m. rows_letters m rows) long
-    ∙ rows_read n (act braid) (up_to n) (λ i j li lj. is.rack.closed i j (from_up_to n i li) (from_up_to n j lj))
-    ∙ ap Some (is_flat n braid.rack is.rack_size)
+    ∙ read
+    ∙ ap Some (same_tables n xs braid.rack size as_given.lawful.rack_size (λ i j li lj. pos_same _ _ (has_letters n rows xs long (letters_laid n rows xs read) i j li lj ∙ sym (as_given.rack i j li lj))))
 
-cocycle_read : (braid : BraidValue) → IsBraid braid → cocycle_table braid.field braid.letters (table (rows_of braid.letters (scalar braid))) ≡ Some braid.cocycle
+-- ---- scalars are read
+
+residues_read : (k : FieldValue) (n : ℕ) (rows : List (List ℤ)) → AllByRecursion (λ row. length row ≡ n) rows → (xs : List ℕ) × (rows_residues k n rows ≡ Some xs)
+residues_read k n [] long = ([], refl)
+residues_read k n (row ∷ rows) long =
+    let (back, rest) = residues_read k n rows long.1 in
+    (map (residue k) row ++ back, ap (λ b. cond b (put_before (Some (map (residue k) row)) (rows_residues k n rows)) None) ((Decides-eqb _ _).1 long.0) ∙ ap (put_before (Some (map (residue k) row))) rest)
+
+-- one scalar, or n rows of n scalars, have a table
+scalars_read : (k : FieldValue) (n : ℕ) (given : GivenScalars) → HasPlaces n given → (xs : List ℕ) × (cocycle_table k n given ≡ Some xs)
 unfolding cocycle_table
-cocycle_read braid is =
+scalars_read k n (constant v) places = (replicate (n * n) (residue k v), refl)
+scalars_read k n (table rows) places =
+    let (xs, read) = residues_read k n rows places.1 in
+    (xs, ap (λ b. cond b (rows_residues k n rows) None) ((Decides-eqb _ _).1 places.0) ∙ read)
+
+-- the scalars that give a braid are read as its cocycle
+cocycle_read : (k : FieldValue) → IsField k → (rows : List (List ℤ)) (given : GivenScalars) (braid : BraidValue) → IsAsGiven k rows given braid → cocycle_table k braid.letters given ≡ Some braid.cocycle
+cocycle_read k is rows given braid as_given =
     let n : ℕ = braid.letters in
-    let rows : List (List ℤ) = rows_of n (scalar braid) in
-    ap (λ b. cond b (rows_residues braid.field n rows) None) ((Decides-eqb _ _).1 (rows_length n (scalar braid)))
-    ∙ scalars_read braid.field n (scalar braid) (up_to n) (λ i j li lj. is.cocycle.element i j (from_up_to n i li) (from_up_to n j lj))
-    ∙ ap Some (is_flat n braid.cocycle is.cocycle_size)
+    let (xs, read) = scalars_read k n given as_given.scalars in
+    let there : HasScalars k n given xs = has_scalars k n given xs read in
+    let read_table : IsCocycleTable k n xs = residues_are_table k is n given xs read in
+    read ∙ ap Some (same_tables n xs braid.cocycle read_table.size as_given.lawful.cocycle_size (λ i j li lj. there.values i j li lj ∙ sym (as_given.cocycle i j li lj)))
 
 -- ---- a rack has no fault
 
@@ -176,8 +210,12 @@ passes braid is =
 -- ---- the braid
 
 pub braids_are_accepted : BraidsAreAccepted
-braids_are_accepted braid is =
+braids_are_accepted k is rows given braid as_given =
     let n : ℕ = braid.letters in
-    made braid.field (rows_of n (act braid)) (table (rows_of n (scalar braid))) n braid.rack braid.cocycle
-    (record { letters = sym (rows_length n (act braid)); table = rack_read braid is })
-    (is_bijective braid is.rack) (is_distributive braid is.rack) (cocycle_read braid is) (passes braid is)
+    let lawful : IsBraid braid = as_given.lawful in
+    let scalars : cocycle_table braid.field n given ≡ Some braid.cocycle = ap (λ m. cocycle_table m n given) as_given.over ∙ cocycle_read k is rows given braid as_given in
+    let accepts : braid_of braid.field rows given ≡ Ok braid =
+    made braid.field rows given n braid.rack braid.cocycle
+    (record { letters = sym as_given.letters.0; table = rack_read k rows given braid as_given })
+    (is_bijective braid lawful.rack) (is_distributive braid lawful.rack) scalars (passes braid lawful) in
+    subst (λ m. braid_of m rows given ≡ Ok braid) as_given.over accepts

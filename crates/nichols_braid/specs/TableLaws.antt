@@ -1,19 +1,9 @@
--- What the laws of the tables say: the braids are exactly what is accepted.
-use Rattle.std.specs.Prelude.{◌≡◌, ℕ, ◌-◌, List, [], map, length, slice_index_or, ℤ, pos, Ok, ⊤}
+-- What the laws of the tables say: what is accepted is exactly the braids as they are given.
+use Rattle.std.specs.Prelude.{◌≡◌, ℕ, ◌-◌, List, [], length, slice_index_or, ℤ, pos, Ok, ⊤}
 use Rattle.std.specs.List.{AllByRecursion}
 use Rattle.nichols_field.specs.Field.{FieldValue, IsField, residue}
-use Rattle.nichols_tensor.specs.Words.{up_to}
 use Rattle.nichols_braid.specs.Braid.{BraidValue, IsBraid, IsLetter, act, scalar}
 use Rattle.nichols_braid.specs.Faults.{GivenScalars, constant, table, braid_of}
-
--- the rows of a table with letters 1 to n, as integers
-abbrev pub rows_of : ℕ → (ℕ → ℕ → ℕ) → List (List ℤ)
-rows_of n at = map (λ i. map (λ j. pos (at i j)) (up_to n)) (up_to n)
-
--- the tables of every braid, given row by row, are that braid
-abbrev pub BraidsAreAccepted : Type 0
-BraidsAreAccepted =
-    (braid : BraidValue) → IsBraid braid → braid_of braid.field (rows_of braid.letters (act braid)) (table (rows_of braid.letters (scalar braid))) ≡ Ok braid
 
 -- the integer in row i and column j; rows and columns count from 1
 abbrev pub integer_at : List (List ℤ) → ℕ → ℕ → ℤ
@@ -46,3 +36,8 @@ pub record IsAsGiven (field : FieldValue) (rows : List (List ℤ)) (given : Give
 abbrev pub AcceptedTablesAreBraids : Type 0
 AcceptedTablesAreBraids =
     (field : FieldValue) → IsField field → (rows : List (List ℤ)) (given : GivenScalars) (braid : BraidValue) → braid_of field rows given ≡ Ok braid → IsAsGiven field rows given braid
+
+-- a braid over the field that is as given is what is accepted
+abbrev pub BraidsAreAccepted : Type 0
+BraidsAreAccepted =
+    (field : FieldValue) → IsField field → (rows : List (List ℤ)) (given : GivenScalars) (braid : BraidValue) → IsAsGiven field rows given braid → braid_of field rows given ≡ Ok braid

@@ -4,7 +4,7 @@ ghost use Rattle.nichols_braid.specs.TableLaws.{BraidsAreAccepted, AcceptedTable
 ghost use Rattle.nichols_braid.specs.Laws.{PermutationsHoldEachOnce, SymmetrizerIsLinear, DerivationsAreLinear, DerivationRule, KilledIsRightIdeal, KilledIsDecided, KernelIsDecided, KilledIsLinear, KernelIsLinear, KilledIsIdeal};
 ghost use Rattle.nichols_braid.specs.LeastLaws.{LeastWordsAreTested, BasisHasLeastWords, BasisIsIndependent, NormalFormsAreUnique, NormalFormsTellClasses, ZeroHasNoTerms, NormalFormIsLinear, LeastWordsAreNormal, AgreeingTestsReadAlike, BasisIsAmongCandidates, RelationsRise};
 
-/// The tables of every braid, given row by row, are that braid.
+/// A braid over the given field, with the given letters and scalars at their places, is what is accepted.
 #[tactic(auto, using(crate::proofs::Complete::braids_are_accepted))]
 pub fn braids_are_accepted()
     ensures { BraidsAreAccepted }
