@@ -1,6 +1,5 @@
 -- Small facts on lists and their entries.
-use Rattle.std.proofs.Common.{◌≡◌, Bool, true, false, cond, ◌||◌, List, [], ◌∷◌, map, refl, ap, ap₂, inl, inr, Some}
-use Rattle.std.specs.List.{filter, find, list_any, AllByRecursion}
+use Rattle.std.proofs.Common.{◌≡◌, List, [], ◌∷◌, map, refl, ap, inl, inr}
 use Rattle.nichols_tensor.specs.Members.{IsIn}
 
 pub first_is_in : {X : Type 0} (x : X) (xs : List X) → IsIn x (x ∷ xs)

@@ -1,6 +1,6 @@
 -- The braid that rows and scalars are, along each path of its making.
-use Rattle.std.proofs.Common.{◌≡◌, ℕ, Bool, true, false, cond, List, length, map, refl, sym, ◌∙◌, ap, subst, Some, None, Ok, Err}
-use Rattle.std.specs.Prelude.{Option, Result, ℤ}
+use Rattle.std.proofs.Common.{◌≡◌, ℕ, true, false, cond, List, length, sym, ◌∙◌, ap, Some, None, Ok, Err}
+use Rattle.std.specs.Prelude.{ℤ}
 use Rattle.std.specs.Option.{option_or}
 use Rattle.nichols_field.specs.Field.{FieldValue, IsField}
 use Rattle.nichols_braid.specs.Braid.{IsBraid}

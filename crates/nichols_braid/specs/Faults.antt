@@ -1,6 +1,6 @@
 -- Which rows and scalars are a braid, and the fault of those that aren't.
-use Rattle.std.specs.Prelude.{◌≡◌, ℕ, ◌+◌, ◌*◌, ◌&&◌, not, Bool, false, List, [], ◌∷◌, ◌++◌, map, length, replicate, Option, None, Some, Result, Ok, Err, ℤ, pos, negsuc, if◌then◌else◌, nat_eq, nat_lt, nat_le}
-use Rattle.std.specs.List.{flat_map, list_all}
+use Rattle.std.specs.Prelude.{ℕ, ◌*◌, ◌&&◌, not, Bool, List, [], ◌∷◌, ◌++◌, map, length, replicate, Option, None, Some, Result, Ok, Err, ℤ, pos, negsuc, if◌then◌else◌, nat_eq, nat_lt, nat_le}
+use Rattle.std.specs.List.{list_all}
 use Rattle.std.specs.Option.{option_or, option_map}
 use Rattle.nichols_field.specs.Field.{FieldValue, residue, times}
 use Rattle.nichols_tensor.specs.Words.{up_to, letter_limit}

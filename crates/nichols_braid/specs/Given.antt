@@ -1,5 +1,5 @@
 -- The rows and scalars that a braid is made from, as contracts see them.
-use Rattle.std.specs.Prelude.{List, ℤ, map}
+use Rattle.std.specs.Prelude.{map}
 use Rattle.nichols_braid.specs.Faults.{GivenScalars, constant, table}
 use Rattle.nichols_braid.specs.declared.faults.Scalars.{Scalars}
 use Rattle.nichols_braid.specs.declared.faults.Scalars.TheVariants.{Constant, Table}

@@ -1,6 +1,6 @@
 -- Least words, bases, normal forms, candidates and relations. Each is read in a test of which combinations are zero in the
 -- algebra: that of the quantum symmetrizer, or that of the skew derivations.
-use Rattle.std.specs.Prelude.{ℕ, zero, suc, Bool, not, List, [], ◌∷◌, ◌++◌, map, filter, find, length, unwrap_or}
+use Rattle.std.specs.Prelude.{ℕ, zero, suc, Bool, not, List, [], ◌∷◌, map, filter, find, length, unwrap_or}
 use Rattle.std.specs.List.{list_any}
 use Rattle.nichols_tensor.specs.Combination.{Combination, single, minus, without_zeros}
 use Rattle.nichols_tensor.specs.Words.{with_letters, words, words_before, combinations}

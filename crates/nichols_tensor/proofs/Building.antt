@@ -1,8 +1,6 @@
 -- Combinations made term by term, and combinations without their zeros.
 use Rattle.std.proofs.Common.{◌≡◌, ◌≢◌, ℕ, Bool, true, false, not, cond, List, [], ◌∷◌, ◌++◌, refl, sym, ◌∙◌, ap, subst, nat_eq, inl, inr}
 use Rattle.std.specs.List.{AllByRecursion}
-use Rattle.std.proofs.lemmas.List.{map-append, append-nil}
-use Rattle.std.proofs.lemmas.List.Elements.{filter-append}
 use Rattle.std.proofs.lemmas.Bool.Decides.{Decides-eqb}
 use Rattle.nichols_field.specs.Field.{FieldValue, IsField, IsElement, plus, times}
 use Rattle.nichols_field.proofs.FieldLaws.{plus_zero, times_is_element, times_eq_zero}

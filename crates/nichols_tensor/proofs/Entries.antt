@@ -1,7 +1,7 @@
 -- Entries of lists that are joined, mapped and filtered.
-use Rattle.std.proofs.Common.{◌≡◌, ℕ, zero, suc, ◌+◌, ◌<◌, Bool, true, false, cond, ◌||◌, List, [], ◌∷◌, ◌++◌, map, length, refl, sym, ◌∙◌, ap, subst, arith, ◌⊎◌, inl, inr}
+use Rattle.std.proofs.Common.{◌≡◌, ℕ, zero, suc, ◌<◌, Bool, true, false, cond, ◌||◌, List, [], ◌∷◌, ◌++◌, map, length, refl, sym, ◌∙◌, ap, subst, arith, ◌⊎◌, inl, inr}
 use Rattle.std.specs.List.{flat_map, filter, find, list_any, list_all, Contains}
-use Rattle.std.specs.Prelude.{Option, Some, None, slice_index_or, ◌&&◌}
+use Rattle.std.specs.Prelude.{Some, slice_index_or, ◌&&◌}
 use Rattle.std.specs.Cmp.Derive.{both_true}
 use Rattle.nichols_tensor.specs.Members.{IsIn}
 

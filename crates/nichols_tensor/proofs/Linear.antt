@@ -1,6 +1,5 @@
 -- Linear maps: they keep sums, multiples and zero, and see the values of a combination alone.
-use Rattle.std.proofs.Common.{◌≡◌, ℕ, List, [], ◌∷◌, ◌++◌, map, refl, sym, ◌∙◌, ap, append_assoc}
-use Rattle.std.specs.List.{flat_map}
+use Rattle.std.proofs.Common.{◌≡◌, ℕ, List, [], ◌∷◌, ◌++◌, refl, sym, ◌∙◌, ap, append_assoc}
 use Rattle.nichols_field.specs.Field.{FieldValue, IsField, plus, times, negative}
 use Rattle.nichols_field.proofs.FieldLaws.{plus_zero}
 use Rattle.nichols_field.proofs.FieldAlgebra.{one_times, difference_of_same, same_from_difference}
