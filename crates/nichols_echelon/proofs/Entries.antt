@@ -1,5 +1,6 @@
 -- Entries of rows.
-use Rattle.std.proofs.Common.{◌≡◌, ◌<◌, ◌==◌, ℕ, Bool, true, false, cond, List, [], ◌∷◌, ◌++◌, refl, sym, ◌∙◌, ap, ap₂, subst, arith, inl, inr}
+use Rattle.std.proofs.Common.{◌≡◌, ◌<◌, ◌==◌, ℕ, Bool, true, false, cond, List, [], ◌∷◌, ◌++◌, refl, sym, ◌∙◌, ap, ap₂, subst, arith, inl, inr, reverse}
+use Rattle.std.proofs.lemmas.Grind.{reverse_onto}
 use Rattle.std.proofs.lemmas.Bool.{cases_eq, eqb-true, eqb-false, eq-eqb, ne_eqb, cond-true, cond-false, cases_order}
 use Rattle.nichols_field.specs.Field.{FieldValue, IsField, IsElement, plus, times}
 use Rattle.nichols_field.proofs.FieldLaws.{plus_comm, plus_assoc, plus_zero, times_plus, times_zero, zero_is_element, plus_is_element}
@@ -38,6 +39,12 @@ unfolding entry
 entry-push k is [] c column = plus_comm k (cell_value c column) 0
 entry-push k is (x ∷ xs) c column =
     ap (plus k (cell_value x column)) (entry-push k is xs c column) ∙ sym (plus_assoc k (cell_value x column) (entry k xs column) (cell_value c column))
+
+pub entry-reverse : (k : FieldValue) → IsField k → (cells : List Cell) (column : ℕ) → entry k (reverse cells) column ≡ entry k cells column
+entry-reverse k is [] column = refl
+entry-reverse k is (c ∷ cells) column =
+    ap (λ xs. entry k xs column) (reverse_onto cells c []) ∙ entry-push k is (reverse cells) c column ∙ ap (λ v. plus k v (cell_value c column)) (entry-reverse k is cells column)
+    ∙ plus_comm k (entry k cells column) (cell_value c column) ∙ sym (entry-cons k c cells column)
 
 -- the cells with each coefficient multiplied
 unfoldable pub scaled : FieldValue → ℕ → List Cell → List Cell

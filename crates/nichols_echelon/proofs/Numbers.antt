@@ -1,20 +1,21 @@
 -- Rows with numbered columns have the same entries, so the same rows depend on the rows before them.
-use Rattle.std.proofs.Common.{◌≡◌, ◌≢◌, ◌<◌, ◌≤◌, ◌+◌, ◌-◌, ◌^◌, ◌⊎◌, ℕ, zero, suc, List, [], ◌∷◌, ◌++◌, sym, ◌∙◌, ap, ap₂, subst, arith, inl, inr, length, get_or, take, drop}
+use Rattle.std.proofs.Common.{◌≡◌, ◌≢◌, ◌<◌, ◌≤◌, ◌+◌, ◌-◌, ◌^◌, ◌⊎◌, ℕ, zero, suc, List, [], ◌∷◌, ◌++◌, sym, ◌∙◌, ap, ap₂, subst, arith, inl, inr, length, get_or, take, drop, reverse, Fits, w32}
 use Rattle.std.specs.List.{AllByRecursion, Contains}
 use Rattle.std.specs.List.Sorted.{IsStrictlyIncreasing}
 use Rattle.std.proofs.lemmas.List.{drop_more, drop_all, take_more}
 use Rattle.std.proofs.lemmas.List.Elements.{Contains-append_left, Contains-append_right, Contains-get_or}
 use Rattle.std.proofs.lemmas.Bool.{cases_eq, cases_lt, cases_order}
+use Rattle.std.proofs.lemmas.Grind.{reverse_onto}
 use Rattle.nichols_field.specs.Field.{FieldValue, IsField, IsElement, plus, times}
 use Rattle.nichols_field.proofs.FieldLaws.{plus_zero, times_zero, zero_is_element}
-use Rattle.nichols_echelon.specs.Cells.{Cell, cell_value, entry, IsRow, IsBelowFirst, AllElements, AllBelow, columns_of}
+use Rattle.nichols_echelon.specs.Cells.{Cell, cell_value, entry, IsRow, AllElements, AllBelow, columns_of}
 use Rattle.nichols_echelon.specs.Combination.{row_at, combined, IsCombination, AllRowsElements, AllRowsBelow}
 use Rattle.nichols_echelon.specs.Split.{place_at, IsPlace, IsSplit}
-use Rattle.nichols_echelon.specs.Numbering.{all_columns, AllListed, IsNumbered, AreNumbered}
+use Rattle.nichols_echelon.specs.Numbering.{all_columns, column_numbered, AllListed, IsNumbered, AreNumbered}
 use Rattle.nichols_echelon.specs.declared.rows.Place.{Place}
 use Rattle.nichols_echelon.specs.declared.rows.Place.TheVariants.{Independent, Depends}
-use Rattle.nichols_echelon.proofs.Shapes.{row_nil, row_cons, row_front, columns_of-append}
-use Rattle.nichols_echelon.proofs.Entries.{entry-nil, entry-cons, cell_here, cell_elsewhere}
+use Rattle.nichols_echelon.proofs.Shapes.{row_nil, row_cons, row_front, columns_of-append, reverse-cons, all_reversed}
+use Rattle.nichols_echelon.proofs.Entries.{entry-nil, entry-cons, entry-reverse, cell_here, cell_elsewhere}
 use Rattle.nichols_echelon.proofs.Combinations.{combined-nil, combined-cons}
 use Rattle.nichols_echelon.proofs.Retracing.{entry_beyond}
 
@@ -46,29 +47,36 @@ number_small columns h (suc i) inside =
     let m : i ≤ get_or columns i 0 = number_small columns h i (omega arith) in
     omega arith
 
--- numbered rows rise as the rows do
-pub numbered_shape : (columns : List ℕ) → IsStrictlyIncreasing columns → (xs ys : List Cell) → IsNumbered columns xs ys → IsRow xs → IsRow ys
+-- the number of the column at a place in the list
+number_at : (columns : List ℕ) (i : ℕ) → i < length columns → column_numbered columns (length columns - 1 - i) ≡ get_or columns i 0
+number_at columns i inside = let same : length columns - 1 - (length columns - 1 - i) ≡ i = omega arith in ap (λ n. get_or columns n 0) same
+
+-- a greater column has a lesser number
+falls : (columns : List ℕ) → IsStrictlyIncreasing columns → (i j : ℕ) → i < length columns → j < length columns → column_numbered columns j < column_numbered columns i → i < j
+falls columns h i j hi hj less =
+    elim (cases_order i j) [
+      | inl same ↦ absurd (let e : column_numbered columns i ≡ column_numbered columns j = ap (column_numbered columns) same in omega arith)
+      | inr (inl before) ↦ before
+      | inr (inr after) ↦ absurd (let l : column_numbered columns i < column_numbered columns j = rises columns h (length columns - 1 - i) (length columns - 1 - j) (omega arith) (omega arith) in omega arith)
+    ]
+
+-- the cells of a row, numbered and put one by one in front of those that are done
+shape_onto : (columns : List ℕ) → IsStrictlyIncreasing columns → (x y : Cell) (xs ys done : List Cell) → IsNumbered columns (x ∷ xs) (y ∷ ys) → IsRow (x ∷ xs) → IsRow (y ∷ done) → IsRow (reverse ys ++ y ∷ done)
+shape_onto columns h x y [] [] done n r d = d
+shape_onto columns h x y [] (v ∷ vs) done n r d = absurd n.3
+shape_onto columns h x y (u ∷ us) [] done n r d = absurd n.3
+shape_onto columns h x y (u ∷ us) (v ∷ vs) done n r d =
+    let less : column_numbered columns y.column < column_numbered columns v.column = omega (arith, r.rising.0, n.1, n.3.1) in
+    subst IsRow (sym (reverse-cons v vs (y ∷ done)))
+    (shape_onto columns h u v us vs (y ∷ done) n.3 (row_front x (u ∷ us) r).2
+    (row_cons v (y ∷ done) (λ e. r.nonzero.1.0 (sym n.3.2 ∙ e)) (falls columns h v.column y.column n.3.0 n.0 less) d))
+
+-- numbered cells rise, from the last to the first
+pub numbered_shape : (columns : List ℕ) → IsStrictlyIncreasing columns → (xs ys : List Cell) → IsNumbered columns xs ys → IsRow xs → IsRow (reverse ys)
 numbered_shape columns h [] [] n r = row_nil
 numbered_shape columns h [] (y ∷ ys) n r = absurd n
 numbered_shape columns h (x ∷ xs) [] n r = absurd n
-numbered_shape columns h (x ∷ xs) (y ∷ ys) n r =
-    let front : (x.coefficient ≢ 0) × IsBelowFirst x.column (columns_of xs) × IsRow xs = row_front x xs r in
-    row_cons y ys (λ e. front.0 (sym n.2 ∙ e)) (first xs ys n.3 front.1) (numbered_shape columns h xs ys n.3 front.2)
-  where
-    first : (us vs : List Cell) → IsNumbered columns us vs → IsBelowFirst x.column (columns_of us) → IsBelowFirst y.column (columns_of vs)
-    first [] [] m b = tt
-    first [] (v ∷ vs) m b = absurd m
-    first (u ∷ us) [] m b = absurd m
-    first (u ∷ us) (v ∷ vs) m b =
-        elim (cases_lt y.column v.column) [
-          | inl less ↦ less
-          | inr more ↦
-              absurd
-              (elim (cases_eq v.column y.column) [
-                | inl same ↦ let e : u.column ≡ x.column = sym m.1 ∙ ap (λ i. get_or columns i 0) same ∙ n.1 in omega (arith, b)
-                | inr other ↦ let l : get_or columns v.column 0 < get_or columns y.column 0 = rises columns h v.column y.column (omega arith) n.0 in omega (arith, b, l, m.1, n.1)
-              ])
-        ]
+numbered_shape columns h (x ∷ xs) (y ∷ ys) n r = subst IsRow (sym (reverse_onto ys y [])) (shape_onto columns h x y xs ys [] n r (row_cons y [] (λ e. r.nonzero.0 (sym n.2 ∙ e)) tt row_nil))
 
 numbered_below : (columns : List ℕ) (xs ys : List Cell) → IsNumbered columns xs ys → AllBelow (length columns) ys
 numbered_below columns [] [] n = tt
@@ -83,7 +91,7 @@ numbered_elements k columns (x ∷ xs) [] n h = absurd n
 numbered_elements k columns (x ∷ xs) (y ∷ ys) n h = (subst (IsElement k) (sym n.2) h.0, numbered_elements k columns xs ys n.3 h.1)
 
 -- one more cell at the end of both
-pub numbered-push : (columns : List ℕ) (xs ys : List Cell) (x y : Cell) → IsNumbered columns xs ys → y.column < length columns → get_or columns y.column 0 ≡ x.column → y.coefficient ≡ x.coefficient → IsNumbered columns (xs ++ x ∷ []) (ys ++ y ∷ [])
+pub numbered-push : (columns : List ℕ) (xs ys : List Cell) (x y : Cell) → IsNumbered columns xs ys → y.column < length columns → column_numbered columns y.column ≡ x.column → y.coefficient ≡ x.coefficient → IsNumbered columns (xs ++ x ∷ []) (ys ++ y ∷ [])
 numbered-push columns [] [] x y n inside at same = (inside, at, same, tt)
 numbered-push columns [] (v ∷ vs) x y n inside at same = absurd n
 numbered-push columns (u ∷ us) [] x y n inside at same = absurd n
@@ -107,20 +115,28 @@ find_column columns x (suc n) =
           ]
     ]
 
+-- a numbered row has columns below the length of the list
+row_below : (columns : List ℕ) (rows numbered : List (List Cell)) → AreNumbered columns rows numbered → (j : ℕ) → AllBelow (length columns) (row_at numbered j)
+row_below columns rows numbered all j = all_reversed (λ c. c.column < length columns) (row_at numbered j) (numbered_below columns (row_at rows j) (reverse (row_at numbered j)) (all.each j))
+
 module _ (k : FieldValue) (is : IsField k) (columns : List ℕ) (rising : IsStrictlyIncreasing columns) where
+  same_number : (i j : ℕ) → i < length columns → j < length columns → column_numbered columns i ≡ column_numbered columns j → i ≡ j
+  same_number i j hi hj e =
+      let same : length columns - 1 - i ≡ length columns - 1 - j = numbers_differ columns rising (length columns - 1 - i) (length columns - 1 - j) (omega arith) (omega arith) e in omega arith
+
   -- the entry at a number is that at its column
-  entry_numbered : (xs ys : List Cell) (r : ℕ) → IsNumbered columns xs ys → r < length columns → entry k ys r ≡ entry k xs (get_or columns r 0)
-  entry_numbered [] [] r n inside = entry-nil k r ∙ sym (entry-nil k (get_or columns r 0))
+  entry_numbered : (xs ys : List Cell) (r : ℕ) → IsNumbered columns xs ys → r < length columns → entry k ys r ≡ entry k xs (column_numbered columns r)
+  entry_numbered [] [] r n inside = entry-nil k r ∙ sym (entry-nil k (column_numbered columns r))
   entry_numbered [] (y ∷ ys) r n inside = absurd n
   entry_numbered (x ∷ xs) [] r n inside = absurd n
   entry_numbered (x ∷ xs) (y ∷ ys) r n inside =
-      entry-cons k y ys r ∙ ap₂ (plus k) cell (entry_numbered xs ys r n.3 inside) ∙ sym (entry-cons k x xs (get_or columns r 0))
+      entry-cons k y ys r ∙ ap₂ (plus k) cell (entry_numbered xs ys r n.3 inside) ∙ sym (entry-cons k x xs (column_numbered columns r))
     where
-      cell : cell_value y r ≡ cell_value x (get_or columns r 0)
+      cell : cell_value y r ≡ cell_value x (column_numbered columns r)
       cell =
           elim (cases_eq y.column r) [
-            | inl here ↦ cell_here y r here ∙ n.2 ∙ sym (cell_here x (get_or columns r 0) (sym n.1 ∙ ap (λ i. get_or columns i 0) here))
-            | inr there ↦ cell_elsewhere y r there ∙ sym (cell_elsewhere x (get_or columns r 0) (λ e. there (numbers_differ columns rising y.column r n.0 inside (n.1 ∙ e))))
+            | inl here ↦ cell_here y r here ∙ n.2 ∙ sym (cell_here x (column_numbered columns r) (sym n.1 ∙ ap (column_numbered columns) here))
+            | inr there ↦ cell_elsewhere y r there ∙ sym (cell_elsewhere x (column_numbered columns r) (λ e. there (same_number y.column r n.0 inside (n.1 ∙ e))))
           ]
 
   -- a column that doesn't occur has no entry
@@ -129,25 +145,31 @@ module _ (k : FieldValue) (is : IsField k) (columns : List ℕ) (rising : IsStri
   entry_absent [] (y ∷ ys) x n none = absurd n
   entry_absent (c ∷ xs) [] x n none = absurd n
   entry_absent (c ∷ xs) (y ∷ ys) x n none =
-      entry-cons k c xs x ∙ ap₂ (plus k) (cell_elsewhere c x (λ e. none y.column n.0 (n.1 ∙ e))) (entry_absent xs ys x n.3 none) ∙ plus_zero k 0 (zero_is_element k is)
+      entry-cons k c xs x ∙ ap₂ (plus k) (cell_elsewhere c x (λ e. none (length columns - 1 - y.column) (omega (arith, n.0)) (n.1 ∙ e))) (entry_absent xs ys x n.3 none) ∙ plus_zero k 0 (zero_is_element k is)
 
   module _ (rows numbered : List (List Cell)) (all : AreNumbered columns rows numbered) where
-    combined_numbered : (cells : List Cell) (r : ℕ) → r < length columns → combined k numbered cells r ≡ combined k rows cells (get_or columns r 0)
-    combined_numbered [] r inside = combined-nil k numbered r ∙ sym (combined-nil k rows (get_or columns r 0))
+    row_numbered : (j r : ℕ) → r < length columns → entry k (row_at numbered j) r ≡ entry k (row_at rows j) (column_numbered columns r)
+    row_numbered j r inside = sym (entry-reverse k is (row_at numbered j) r) ∙ entry_numbered (row_at rows j) (reverse (row_at numbered j)) r (all.each j) inside
+
+    row_absent : (j x : ℕ) → ((r : ℕ) → r < length columns → get_or columns r 0 ≢ x) → entry k (row_at rows j) x ≡ 0
+    row_absent j x none = entry_absent (row_at rows j) (reverse (row_at numbered j)) x (all.each j) none
+
+    combined_numbered : (cells : List Cell) (r : ℕ) → r < length columns → combined k numbered cells r ≡ combined k rows cells (column_numbered columns r)
+    combined_numbered [] r inside = combined-nil k numbered r ∙ sym (combined-nil k rows (column_numbered columns r))
     combined_numbered (c ∷ cells) r inside =
         combined-cons k numbered c cells r
-        ∙ ap₂ (λ a b. plus k (times k c.coefficient a) b) (entry_numbered (row_at rows c.column) (row_at numbered c.column) r (all.each c.column) inside) (combined_numbered cells r inside)
-        ∙ sym (combined-cons k rows c cells (get_or columns r 0))
+        ∙ ap₂ (λ a b. plus k (times k c.coefficient a) b) (row_numbered c.column r inside) (combined_numbered cells r inside)
+        ∙ sym (combined-cons k rows c cells (column_numbered columns r))
 
     combined_absent : (cells : List Cell) (x : ℕ) → ((r : ℕ) → r < length columns → get_or columns r 0 ≢ x) → combined k rows cells x ≡ 0
     combined_absent [] x none = combined-nil k rows x
     combined_absent (c ∷ cells) x none =
         combined-cons k rows c cells x
-        ∙ ap₂ (λ a b. plus k (times k c.coefficient a) b) (entry_absent (row_at rows c.column) (row_at numbered c.column) x (all.each c.column) none) (combined_absent cells x none)
+        ∙ ap₂ (λ a b. plus k (times k c.coefficient a) b) (row_absent c.column x none) (combined_absent cells x none)
         ∙ ap (λ m. plus k m 0) (times_zero k c.coefficient is) ∙ plus_zero k 0 (zero_is_element k is)
 
     beyond : (j r : ℕ) → length columns ≤ r → entry k (row_at numbered j) r ≡ 0
-    beyond j r above = entry_beyond k is (length columns) (row_at numbered j) r (numbered_below columns (row_at rows j) (row_at numbered j) (all.each j)) above
+    beyond j r above = entry_beyond k is (length columns) (row_at numbered j) r (row_below columns rows numbered all j) above
 
     combined_beyond : (cells : List Cell) (r : ℕ) → length columns ≤ r → combined k numbered cells r ≡ 0
     combined_beyond [] r above = combined-nil k numbered r
@@ -162,9 +184,11 @@ module _ (k : FieldValue) (is : IsField k) (columns : List ℕ) (rising : IsStri
       value = λ x.
           elim (find_column columns x (length columns)) [
             | inl found ↦
-                subst (λ y. entry k (row_at rows j) y ≡ combined k rows cells y) found.2
-                (sym (entry_numbered (row_at rows j) (row_at numbered j) found.0 (all.each j) found.1) ∙ c.value found.0 ∙ combined_numbered cells found.0 found.1)
-            | inr none ↦ entry_absent (row_at rows j) (row_at numbered j) x (all.each j) none ∙ sym (combined_absent cells x none)
+                let r : ℕ = length columns - 1 - found.0 in
+                let inside : r < length columns = omega (arith, found.1) in
+                subst (λ y. entry k (row_at rows j) y ≡ combined k rows cells y) (number_at columns found.0 found.1 ∙ found.2)
+                (sym (row_numbered j r inside) ∙ c.value r ∙ combined_numbered cells r inside)
+            | inr none ↦ row_absent j x none ∙ sym (combined_absent cells x none)
           ];
     }
 
@@ -175,7 +199,7 @@ module _ (k : FieldValue) (is : IsField k) (columns : List ℕ) (rising : IsStri
       value = λ r.
           elim (cases_lt r (length columns)) [
             | inl inside ↦
-                entry_numbered (row_at rows j) (row_at numbered j) r (all.each j) inside ∙ c.value (get_or columns r 0) ∙ sym (combined_numbered cells r inside)
+                row_numbered j r inside ∙ c.value (column_numbered columns r) ∙ sym (combined_numbered cells r inside)
             | inr above ↦ beyond j r above ∙ sym (combined_beyond cells r above)
           ];
     }
@@ -200,11 +224,12 @@ row_of_all P (row ∷ rows) none h zero = h.0
 row_of_all P (row ∷ rows) none h (suc j) = row_of_all P rows none h.1 j
 
 pub rows_below : (columns : List ℕ) (rows numbered : List (List Cell)) → AreNumbered columns rows numbered → AllRowsBelow (length columns) numbered
-rows_below columns rows numbered all = all_rows (AllBelow (length columns)) numbered (λ j h. numbered_below columns (row_at rows j) (row_at numbered j) (all.each j))
+rows_below columns rows numbered all = all_rows (AllBelow (length columns)) numbered (λ j h. row_below columns rows numbered all j)
 
 pub rows_elements : (k : FieldValue) (columns : List ℕ) (rows numbered : List (List Cell)) → AreNumbered columns rows numbered → AllRowsElements k rows → AllRowsElements k numbered
 rows_elements k columns rows numbered all h =
-    all_rows (AllElements k) numbered (λ j l. numbered_elements k columns (row_at rows j) (row_at numbered j) (all.each j) (row_of_all (AllElements k) rows tt h j))
+    all_rows (AllElements k) numbered (λ j l.
+    all_reversed (λ c. IsElement k c.coefficient) (row_at numbered j) (numbered_elements k columns (row_at rows j) (reverse (row_at numbered j)) (all.each j) (row_of_all (AllElements k) rows tt h j)))
 
 -- the columns of all rows
 pub all_columns-drop : (rows : List (List Cell)) (i : ℕ) → i < length rows → all_columns (drop i rows) ≡ columns_of (row_at rows i) ++ all_columns (drop (i + 1) rows)
@@ -234,17 +259,18 @@ unfolding all_columns
 all_columns-none rows i h = ap all_columns (drop_all i rows h)
 
 pub numbered_more : (columns : List ℕ) (cells : List Cell) (i : ℕ) (c : Cell) (out next : List Cell) (y : Cell) → i < length cells → c ≡ get_or cells i c → next ≡ out ++ y ∷ [] → IsNumbered columns (take i cells) out →
-    y.column < length columns → get_or columns y.column 0 ≡ c.column → y.coefficient ≡ c.coefficient → IsNumbered columns (take (i + 1) cells) next
+    y.column < length columns → column_numbered columns y.column ≡ c.column → y.coefficient ≡ c.coefficient → IsNumbered columns (take (i + 1) cells) next
 numbered_more columns cells i c out next y h e n old inside at same =
     subst (λ (ys : List Cell). IsNumbered columns (take (i + 1) cells) ys) (sym n)
     (subst (λ (xs : List Cell). IsNumbered columns xs (out ++ y ∷ [])) (sym (take_more cells i c h ∙ ap (λ (d : Cell). take i cells ++ d ∷ []) (sym e))) (numbered-push columns (take i cells) out c y old inside at same))
 
 -- numbers below 2 to the 32 that rise strictly are at most so many
-pub few_columns : (columns : List ℕ) → IsStrictlyIncreasing columns → ((i : ℕ) → get_or columns i 0 < 2 ^ 32) → length columns ≤ 2 ^ 32
+pub few_columns : (columns : List ℕ) → IsStrictlyIncreasing columns → ((i : ℕ) → Fits w32 (get_or columns i 0)) → length columns ≤ 2 ^ 32
 few_columns columns h bound =
     elim (cases_eq (length columns) 0) [
       | inl none ↦ omega arith
       | inr some ↦
           let last : length columns - 1 ≤ get_or columns (length columns - 1) 0 = number_small columns h (length columns - 1) (omega arith) in
-          omega (arith, bound (length columns - 1))
+          let fits : Fits w32 (get_or columns (length columns - 1) 0) = bound (length columns - 1) in
+          omega arith
     ]

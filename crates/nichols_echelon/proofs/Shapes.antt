@@ -1,6 +1,7 @@
 -- The shape of rows.
-use Rattle.std.proofs.Common.{◌≡◌, ◌≢◌, ◌<◌, ℕ, List, [], ◌∷◌, ◌++◌, refl, ap, arith, zero, suc, get_or, length, subst, sym}
+use Rattle.std.proofs.Common.{◌≡◌, ◌≢◌, ◌<◌, ℕ, List, [], ◌∷◌, ◌++◌, refl, ap, arith, zero, suc, get_or, length, subst, sym, ◌∙◌, reverse, append_assoc}
 use Rattle.std.specs.List.{AllByRecursion}
+use Rattle.std.proofs.lemmas.Grind.{reverse_onto}
 use Rattle.nichols_echelon.specs.Cells.{Cell, IsRow, IsRising, IsBelowFirst, columns_of}
 
 pub row_front : (c : Cell) (cells : List Cell) → IsRow (c ∷ cells) → (c.coefficient ≢ 0) × IsBelowFirst c.column (columns_of cells) × IsRow cells
@@ -35,6 +36,15 @@ all_both P Q R f (x ∷ xs) h k = (f x h.0 k.0, all_both P Q R f xs h.1 k.1)
 
 pub all_push : {X : Type 0} (P : X → Type 0) (xs : List X) (y : X) → AllByRecursion P xs → P y → AllByRecursion P (xs ++ y ∷ [])
 all_push P xs y h k = all_append P xs (y ∷ []) h (k, tt)
+
+pub reverse-cons : {X : Type 0} (x : X) (xs ys : List X) → reverse (x ∷ xs) ++ ys ≡ reverse xs ++ x ∷ ys
+reverse-cons x xs ys = ap (λ zs. zs ++ ys) (reverse_onto xs x []) ∙ append_assoc (reverse xs) (x ∷ []) ys
+
+pub all_reversed : {X : Type 0} (P : X → Type 0) (xs : List X) → AllByRecursion P (reverse xs) → AllByRecursion P xs
+all_reversed P [] h = tt
+all_reversed P (x ∷ xs) h =
+    let both : AllByRecursion P (reverse xs ++ x ∷ []) = subst (AllByRecursion P) (reverse_onto xs x []) h in
+    ((all_back P (reverse xs) (x ∷ []) both).0, all_reversed P xs (all_front P (reverse xs) (x ∷ []) both))
 
 -- rising columns, at a column in the middle
 below_joined : (v : ℕ) (vs : List ℕ) (w : ℕ) (us : List ℕ) → IsBelowFirst v (vs ++ w ∷ []) → IsBelowFirst v (vs ++ w ∷ us)

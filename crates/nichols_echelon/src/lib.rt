@@ -24,8 +24,9 @@ pub use rows::{Cell, Place, Row};
 /// The rows' coefficients are elements of the field, and there are fewer than 2^32 rows; their
 /// columns may be any. The answer doesn't hang on how it was found: an independent row is no
 /// combination of the rows before it, and the combination of any other row over the independent
-/// rows before it is the only one. Memory is taken in proportion to the cells of the rows and of
-/// what is left of them, and `AllocError` says that it was refused.
+/// rows before it is the only one. Columns are swept from the greatest down, since rows whose new
+/// columns come late then fill in less. Memory is taken in proportion to the cells of the rows and
+/// of what is left of them, and `AllocError` says that it was refused.
 pub fn split_rows(alloc: Global, field: Field, rows: &[Row]) -> Result<Vec<Place>, AllocError>
     requires elements { AllRowsElements field rows.now }
     requires count { length rows.now < 2 ^ 32 }

@@ -1,11 +1,11 @@
-//! Numbers for the columns that occur, so that tables over them are short.
+//! Numbers for the columns that occur, from the greatest down, so that tables over them are short.
 
-ghost use Rattle.std.specs.Prelude.{◌≡◌, ◌<◌, ◌≤◌, ◌^◌, ◌++◌, IfOk, OnOk, ℕ, length, slice_index};
+ghost use Rattle.std.specs.Prelude.{◌≡◌, ◌<◌, ◌≤◌, ◌^◌, ◌++◌, IfOk, OnOk, ℕ, length, reverse};
 ghost use Rattle.std.specs.List.{Contains};
 ghost use Rattle.std.specs.List.Sorted.{IsStrictlyIncreasing};
 ghost use Rattle.nichols_echelon.specs.Cells.{IsRow, columns_of};
 ghost use Rattle.nichols_echelon.specs.Combination.{row_at};
-ghost use Rattle.nichols_echelon.specs.Numbering.{all_columns, AllListed, IsNumbered, AreNumbered};
+ghost use Rattle.nichols_echelon.specs.Numbering.{all_columns, column_numbered, AllListed, IsNumbered, AreNumbered};
 
 use crate::rows::{Cell, Row};
 use std::alloc::{AllocError, Global};
@@ -34,24 +34,24 @@ pub(crate) fn occurring_columns(alloc: Global, rows: &[Row]) -> Result<Vec<u32>,
     Ok(columns)
 }
 
-/// The number of a column among those that occur.
+/// The number of a column among those that occur: how many of them are greater.
 fn number_of(columns: &[u32], column: u32) -> usize
     requires rising { IsStrictlyIncreasing columns.now }
     requires listed { Contains columns.now column }
     ensures inside { result < length columns.now }
-    ensures number { slice_index columns.now result ≡ column }
+    ensures number { column_numbered columns.now result ≡ column }
 {
     match columns.binary_search(&column) {
-        Ok(number) => number,
+        Ok(place) => columns.len() - 1 - place,
         Err(_) => unreachable!(),
     }
 }
 
-/// A row with its columns numbered.
+/// A row with its columns numbered, so that its cells stand in reversed order.
 fn numbered_row(alloc: Global, columns: &[u32], row: &Row) -> Result<Row, AllocError>
     requires rising { IsStrictlyIncreasing columns.now }
     requires listed { AllListed columns.now row.now }
-    ensures { IfOk result (λ r. IsNumbered columns.now row.now r) }
+    ensures { IfOk result (λ r. IsNumbered columns.now row.now (reverse r)) }
 {
     let cells = row.cells();
     let mut out = Vec::new(alloc);
@@ -62,6 +62,7 @@ fn numbered_row(alloc: Global, columns: &[u32], row: &Row) -> Result<Row, AllocE
             coefficient: cell.coefficient,
         })?;
     }
+    out.reverse();
     Ok(Row::of(out))
 }
 

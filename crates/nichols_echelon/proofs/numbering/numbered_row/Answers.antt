@@ -1,15 +1,14 @@
-use Rattle.std.proofs.Common.{◌≤◌, List, sym, ◌∙◌, ap, subst, arith, get_or, Fits, w32}
+use Rattle.std.proofs.Common.{◌≤◌, ◌^◌, List, sym, ◌∙◌, ap, subst, arith, length}
 use Rattle.std.proofs.lemmas.List.{take_all}
 use Rattle.nichols_echelon.specs.Cells.{Cell, IsRow}
 use Rattle.nichols_echelon.specs.Numbering.{IsNumbered}
-use Rattle.nichols_echelon.proofs.Numbers.{number_small, numbered_more, numbered_shape}
+use Rattle.nichols_echelon.proofs.Numbers.{few_columns, numbered_more, numbered_shape}
 use Rattle.nichols_echelon.proofs.numbering.numbered_row.Goals as goal
 
 pub overflow_cast-column : goal.overflow_cast-column
 overflow_cast-column c =
-    let small : c.number_of-column.result ≤ get_or c.args.columns.now c.number_of-column.result 0 = number_small c.args.columns.now c.requires.rising c.number_of-column.result c.number_of-column.ensures.inside in
-    let fits : Fits w32 (get_or c.args.columns.now c.number_of-column.result 0) = c.type_inv.columns c.number_of-column.result in
-    omega arith
+    let few : length c.args.columns.now ≤ 2 ^ 32 = few_columns c.args.columns.now c.requires.rising c.type_inv.columns in
+    omega (arith, c.number_of-column.ensures.inside)
 
 pub loop-cell-preserved : goal.loop-cell-preserved
 loop-cell-preserved c =
@@ -18,6 +17,7 @@ loop-cell-preserved c =
 
 pub of-requires : goal.of-requires
 of-requires c =
-    numbered_shape c.args.columns.now c.requires.rising c.cells-cells.result.now c.loop-cell.out.items
+    subst IsRow (sym c.reverse.ensures.items)
+    (numbered_shape c.args.columns.now c.requires.rising c.cells-cells.result.now c.loop-cell.out.items
     (subst (λ (xs : List Cell). IsNumbered c.args.columns.now xs c.loop-cell.out.items) (take_all c.loop-cell.cell-index c.cells-cells.result.now (omega arith)) c.loop-cell.invariant)
-    (subst IsRow (sym c.cells-cells.ensures.same) c.cells-cells.ensures.shape)
+    (subst IsRow (sym c.cells-cells.ensures.same) c.cells-cells.ensures.shape))
