@@ -46,7 +46,10 @@ fn degrees(rt: HostRuntime) -> Result<(), Fail> {
         form: Comb::zero(alloc),
     })?;
     let whole = degree_text(alloc, 2, &basis, relations.as_slice(), false)?;
-    assert!(rt; whole.as_slice() == b"degree 2 dimension 2\nbasis e 24.1\nrelation 3.1 = 100*1.2 + 2*2.3\nrelation 3.3 = 0\n".as_slice());
+    assert!(rt;
+        whole.as_slice()
+            == b"degree 2 dimension 2\nbasis e 24.1\nrelation 3.1 = 100*1.2 + 2*2.3\nrelation 3.3 = 0\n".as_slice()
+    );
     let brief = degree_text(alloc, 2, &basis, relations.as_slice(), true)?;
     assert!(rt; brief.as_slice() == b"degree 2 dimension 2\n".as_slice());
     let empty = degree_text(alloc, 60, &[], &[], false)?;
@@ -60,8 +63,9 @@ fn headers_and_ends(rt: HostRuntime) -> Result<(), Fail> {
     let field = Field::new(65521).map_err(|_| "no field")?;
     let mut rack = Vec::new(alloc);
     rack.push([1].as_slice().to_vec(alloc)?)?;
-    let braid =
-        Braid::new(alloc, field, rack.as_slice(), &Scalars::Constant(-1)).map_err(|_| "no braid")?;
+    let braid = Braid::new(alloc, field, rack.as_slice(), &Scalars::Constant(-1)).map_err(
+        |_| "no braid",
+    )?;
     let header = header_text(alloc, &braid, 12, 1024)?;
     assert!(rt; header.as_slice() == b"nichols p 65521 letters 1 degree 12 rows 1024\n".as_slice());
     let closed = EndLine::Closed {
@@ -78,7 +82,9 @@ fn headers_and_ends(rt: HostRuntime) -> Result<(), Fail> {
 #[test]
 fn single_lines(rt: HostRuntime) -> Result<(), Fail> {
     let refusal = not_distributive_text(rt.alloc(), 2, 1, 24, 10, 9)?;
-    assert!(rt; refusal.as_slice() == b"refused: not distributive at 2 1 24: 10 and 9\n".as_slice());
+    assert!(rt;
+        refusal.as_slice() == b"refused: not distributive at 2 1 24: 10 and 9\n".as_slice()
+    );
     assert!(rt; memory_line(None).bytes() == b"memory last none\n".as_slice());
     assert!(rt; memory_line(Some(60)).bytes() == b"memory last 60\n".as_slice());
     assert!(rt; read_fault_line() == b"read fault\n".as_slice());
