@@ -7,10 +7,12 @@ ghost use Rattle.nichols_tensor.specs.Combination.{AllElements, HasSameValues, s
 ghost use Rattle.nichols_tensor.specs.Members.{IsIn};
 ghost use Rattle.nichols_tensor.specs.WordOrder.{IsOrdered};
 ghost use Rattle.nichols_tensor.specs.Words.{IsLetterOf, letter_limit, up_to};
+ghost use Rattle.nichols_words.specs.Word.{word_limit};
 ghost use Rattle.nichols_braid.specs.Braid.{IsLetter};
 ghost use Rattle.nichols_braid.specs.Kernel.{is_killed};
 ghost use Rattle.nichols_braid.specs.Least.{basis, candidates, relations};
 ghost use Rattle.nichols_block.specs.Forms.{AllShort, IsTable, derived_from, followed_form, form_in};
+ghost use Rattle.nichols_block.specs.Levels.{degree_limit};
 ghost use Rattle.nichols_block.specs.Rule.{IsRuleOf, derived_forms};
 
 use crate::rule::{DegreeRule, Derivatives};
@@ -150,7 +152,7 @@ fn derivatives(
     b: u8,
 ) -> Result<Derivatives, AllocError>
     requires word { IsIn u (basis is_killed braid.now (length u)) }
-    requires short { length u < 60 }
+    requires short { length u < word_limit }
     requires table { table.now ≡ relations is_killed braid.now (length u) }
     requires forms { forms.now ≡ derived_forms braid.now (length u) u }
     requires letter { IsLetter braid.now b }
@@ -175,7 +177,7 @@ fn push_derivatives(
     out: &mut Vec<Derivatives>,
 ) -> Result<(), AllocError>
     requires word { IsIn u (basis is_killed braid.now (length u)) }
-    requires short { length u < 60 }
+    requires short { length u < word_limit }
     requires table { table.now ≡ relations is_killed braid.now (length u) }
     requires forms { forms.now ≡ derived_forms braid.now (length u) u }
     ensures { OnOk result (out.new.items ≡ out.old.items ++ map (λ b. derived_forms braid.now (suc (length u)) (u ++ b ∷ [])) (up_to braid.now.letters)) }
@@ -193,7 +195,7 @@ pub(crate) fn all_derivatives(
     lower: &DegreeRule,
 ) -> Result<Vec<Derivatives>, AllocError>
     requires rule { IsRuleOf braid.now lower.now.degree lower.now }
-    requires degree { lower.now.degree < 60 }
+    requires degree { lower.now.degree < degree_limit }
     ensures { IfOk result (λ r. r.items ≡ map (derived_forms braid.now (suc lower.now.degree)) (candidates is_killed braid.now (suc lower.now.degree))) }
 {
     let table = lower.table.as_slice();
