@@ -1,6 +1,6 @@
 //! Derivatives of candidates, in normal form over the degree below.
 
-ghost use Rattle.std.specs.Prelude.{◌≡◌, ◌<◌, ◌++◌, ◌∷◌, IfOk, List, [], length, map, suc};
+ghost use Rattle.std.specs.Prelude.{◌≡◌, ◌<◌, ◌++◌, ◌∷◌, IfOk, [], length, map, suc};
 ghost use Rattle.std.specs.Result.{OnOk};
 ghost use Rattle.nichols_field.specs.Field.{IsElement};
 ghost use Rattle.nichols_tensor.specs.Combination.{AllElements, HasSameValues, scaled};
@@ -118,6 +118,8 @@ fn put_derivative(
 }
 
 /// The normal form of the derivative by a of `u x_b`, from the form of that of u.
+///
+/// Its terms are collected in `terms`, in place of what that had, so that one list serves many derivatives.
 fn derivative(
     alloc: Global,
     braid: &Braid,
@@ -126,6 +128,7 @@ fn derivative(
     form: &Comb,
     a: u8,
     b: u8,
+    terms: &mut Vec<Term>,
 ) -> Result<Comb, AllocError>
     requires table { IsTable braid.now.field table.now }
     requires form { AllElements braid.now.field form.now }
@@ -137,8 +140,8 @@ fn derivative(
     ensures shape { IfOk result IsOrdered }
 {
     let field = braid.field();
-    let mut terms = Vec::new(alloc);
-    put_derivative(braid, table, u, form, a, b, &mut terms)?;
+    terms.clear();
+    put_derivative(braid, table, u, form, a, b, terms)?;
     Comb::sum_of(alloc, field, terms.as_slice())
 }
 
@@ -159,10 +162,11 @@ fn derivatives(
     ensures { IfOk result (λ r. r ≡ derived_forms braid.now (suc (length u)) (u ++ b ∷ [])) }
 {
     let _field = braid.field();
+    let mut terms = Vec::new(alloc);
     let mut out = Vec::new(alloc);
     for a in 0..braid.letters() {
         let form = &forms[usize::from(a)];
-        out.push(derivative(alloc, braid, table, u, form, a + 1, b)?)?;
+        out.push(derivative(alloc, braid, table, u, form, a + 1, b, &mut terms)?)?;
     }
     Ok(Derivatives::of(out))
 }
