@@ -1,19 +1,20 @@
 -- Forms in a table of relations.
-use Rattle.std.proofs.Common.{◌≡◌, ◌≢◌, ℕ, zero, suc, ◌<◌, Bool, true, false, cond, List, [], ◌∷◌, ◌++◌, length, get_or, take, nat_eq, refl, sym, ◌∙◌, ap, ap₂, subst, arith, inl, inr, ◌+◌}
+use Rattle.std.proofs.Common.{◌≡◌, ◌≢◌, ℕ, zero, suc, ◌<◌, Bool, true, false, cond, List, [], ◌∷◌, ◌++◌, length, get_or, take, nat_eq, refl, sym, ◌∙◌, ap, ap₂, subst, arith, inl, inr, ◌+◌, append_assoc}
 use Rattle.std.proofs.Common.{Ok, Err}
 use Rattle.std.specs.Prelude.{if◌then◌else◌}
-use Rattle.std.proofs.lemmas.List.{take_more, append-nil}
+use Rattle.std.proofs.lemmas.List.{take_more, append-nil, map-append}
 use Rattle.std.proofs.lemmas.Bool.Decides.{Decides-eqb}
 use Rattle.std.specs.List.Sorted.{IsBinarySearchResult, IsSearchInRange}
 use Rattle.std.specs.Cmp.Lexicographic.{same_text}
-use Rattle.nichols_field.specs.Field.{FieldValue, IsField, plus, times}
-use Rattle.nichols_field.proofs.FieldLaws.{plus_assoc, times_assoc, times_plus}
+use Rattle.nichols_field.specs.Field.{FieldValue, IsField, IsElement, times}
+use Rattle.nichols_field.proofs.FieldLaws.{times_assoc, times_one, one_is_element}
 use Rattle.nichols_tensor.specs.Members.{IsIn}
-use Rattle.nichols_tensor.specs.Combination.{Term, Combination, value_at, HasSameValues, same_letters, single, scaled, extended}
+use Rattle.nichols_tensor.specs.Combination.{Term, Combination, AllElements, same_letters, single, scaled, extended}
+use Rattle.nichols_tensor.proofs.Building.{elements-append, elements-scaled}
 use Rattle.nichols_tensor.proofs.Linear.{extended-append}
 use Rattle.nichols_tensor.specs.WordOrder.{word_cmp, IsRising}
 use Rattle.nichols_tensor.proofs.Ordered.{before_all}
-use Rattle.nichols_tensor.proofs.Values.{same_itself, value_at-append, value_at-scaled}
+use Rattle.nichols_tensor.proofs.Values.{same_itself}
 use Rattle.nichols_braid.specs.Braid.{BraidValue, act, scalar}
 use Rattle.nichols_tensor.specs.Relation.{PlainRelation}
 use Rattle.nichols_block.specs.Forms.{candidates_of, form_in, followed_form, derived_from}
@@ -47,13 +48,6 @@ form_at (r ∷ table) (suc i) d rising less = at (same_letters r.candidate (get_
     at true e rest = absurd (before_all r.candidate (candidates_of table) rising.0 rising.1 (subst (λ w. IsIn w (candidates_of table)) (sym (same_text r.candidate (get_or table i d).candidate (sym e))) (candidate_at table i d (omega arith))))
     at false e rest = rest
 
--- a sum, as a combination
-pub sum_values : (k : FieldValue) → IsField k → (by : ℕ) (f g r : Combination) → ((w : List ℕ) → value_at k r w ≡ plus k (value_at k f w) (times k by (value_at k g w))) → HasSameValues k r (f ++ scaled k by g)
-sum_values k is by f g r h w = h w ∙ ap (plus k (value_at k f w)) (sym (value_at-scaled k is by g w)) ∙ sym (value_at-append k is f (scaled k by g) w)
-
-pub sum_values_of : (k : FieldValue) → IsField k → (by : ℕ) (f g h r : Combination) → g ≡ h → ((w : List ℕ) → value_at k r w ≡ plus k (value_at k f w) (times k by (value_at k g w))) → HasSameValues k r (f ++ scaled k by h)
-sum_values_of k is by f g h r e values = subst (λ x. HasSameValues k r (f ++ scaled k by x)) e (sum_values k is by f g r values)
-
 -- the form at the place that a search found
 pub form_found : (table : List PlainRelation) (w : List ℕ) (i : ℕ) (r : PlainRelation) → IsRising (candidates_of table) → IsSearchInRange (Ok i) (length table) → IsBinarySearchResult (λ (s : PlainRelation). word_cmp s.candidate w) table (Ok i) →
     r ≡ get_or table i r → r.form ≡ form_in table w
@@ -69,37 +63,36 @@ form_missed table w i rising within found = sym (form_elsewhere table w (search_
     empty : PlainRelation
     empty = record { candidate = []; form = [] }
 
--- ---- a sum that goes on
+-- ---- multiples of forms, put behind other terms
 
--- one more term of f
-pub followed_more : (k : FieldValue) → IsField k → (by factor : ℕ) (total s r : Combination) (table : List PlainRelation) (f : Combination) (i : ℕ) (t d : Term) (word : List ℕ) (c : ℕ) → i < length f → t ≡ get_or f i t → d ≡ t →
-    factor ≡ times k by d.coefficient → word ≡ d.word ++ c ∷ [] → HasSameValues k s (total ++ scaled k by (followed_form k table (take i f) c)) → HasSameValues k r (s ++ scaled k factor (form_in table word)) →
-    HasSameValues k r (total ++ scaled k by (followed_form k table (take (i + 1) f) c))
-followed_more k is by factor total s r table f i t d word c less at view factor_is word_is before here w =
-    here w ∙ value_at-append k is s (scaled k factor (form_in table word)) w
-    ∙ ap₂ (plus k) (before w ∙ value_at-append k is total (scaled k by done) w ∙ ap (plus k (value_at k total w)) (value_at-scaled k is by done w))
-    (value_at-scaled k is factor (form_in table word) w ∙ ap₂ (times k) (factor_is ∙ ap (λ (u : Term). times k by u.coefficient) view) (ap (λ v. value_at k (form_in table v) w) (word_is ∙ ap (λ (u : Term). u.word ++ c ∷ []) view)) ∙ times_assoc k by t.coefficient (value_at k own w))
-    ∙ plus_assoc k (value_at k total w) (times k by (value_at k done w)) (times k by (times k t.coefficient (value_at k own w)))
-    ∙ ap (plus k (value_at k total w)) (sym (times_plus k by (value_at k done w) (times k t.coefficient (value_at k own w))) ∙ ap (times k by) (sym longer))
-    ∙ sym (value_at-append k is total (scaled k by more) w ∙ ap (plus k (value_at k total w)) (value_at-scaled k is by more w))
+-- a multiple of a multiple
+scaled-scaled : (k : FieldValue) (b c : ℕ) (f : Combination) → scaled k b (scaled k c f) ≡ scaled k (times k b c) f
+scaled-scaled k b c [] = refl
+scaled-scaled k b c (t ∷ f) = ap₂ (λ n (g : Combination). record { word = t.word; coefficient = n } ∷ g) (sym (times_assoc k b c t.coefficient)) (scaled-scaled k b c f)
+
+-- a form with a letter behind, with one more of its terms
+followed_more : (k : FieldValue) (by : ℕ) (table : List PlainRelation) (f : Combination) (c i : ℕ) (t : Term) → i < length f → t ≡ get_or f i t →
+    scaled k by (followed_form k table (take (i + 1) f) c) ≡ scaled k by (followed_form k table (take i f) c) ++ scaled k (times k by t.coefficient) (form_in table (t.word ++ c ∷ []))
+followed_more k by table f c i t less at =
+    ap (λ g. scaled k by (extended k image g)) (take_more f i t less ∙ ap (λ u. take i f ++ u ∷ []) (sym at))
+    ∙ ap (scaled k by) (extended-append k image (take i f) (t ∷ []) ∙ ap (λ g. extended k image (take i f) ++ g) (append-nil (scaled k t.coefficient (image t.word))))
+    ∙ map-append (λ (u : Term). record { word = u.word; coefficient = times k by u.coefficient }) (extended k image (take i f)) (scaled k t.coefficient (image t.word))
+    ∙ ap (λ g. scaled k by (extended k image (take i f)) ++ g) (scaled-scaled k by t.coefficient (image t.word))
   where
     image : List ℕ → Combination
     image v = form_in table (v ++ c ∷ [])
 
-    own : Combination
-    own = image t.word
+-- the same, put behind other terms
+pub put_more : (k : FieldValue) (by factor : ℕ) (table : List PlainRelation) (f : Combination) (c i : ℕ) (t d : Term) (word : List ℕ) (before middle after : Combination) → i < length f → t ≡ get_or f i t → d ≡ t → factor ≡ times k by d.coefficient →
+    word ≡ d.word ++ c ∷ [] → middle ≡ before ++ scaled k by (followed_form k table (take i f) c) → after ≡ middle ++ scaled k factor (form_in table word) → after ≡ before ++ scaled k by (followed_form k table (take (i + 1) f) c)
+put_more k by factor table f c i t d word before middle after less at view factor_is word_is first rest =
+    rest ∙ ap₂ (λ m g. m ++ g) first (ap₂ (λ n v. scaled k n (form_in table v)) (factor_is ∙ ap (λ (u : Term). times k by u.coefficient) view) (word_is ∙ ap (λ (u : Term). u.word ++ c ∷ []) view))
+    ∙ append_assoc before (scaled k by (followed_form k table (take i f) c)) (scaled k (times k by t.coefficient) (form_in table (t.word ++ c ∷ [])))
+    ∙ ap (λ g. before ++ g) (sym (followed_more k by table f c i t less at))
 
-    done : Combination
-    done = extended k image (take i f)
-
-    more : Combination
-    more = extended k image (take (i + 1) f)
-
-    longer : value_at k more w ≡ plus k (value_at k done w) (times k t.coefficient (value_at k own w))
-    longer =
-        ap (λ g. value_at k (extended k image g) w) (take_more f i t less ∙ ap (λ u. take i f ++ u ∷ []) (sym at))
-        ∙ ap (λ g. value_at k g w) (extended-append k image (take i f) (t ∷ []) ∙ ap (λ g. done ++ g) (append-nil (scaled k t.coefficient own)))
-        ∙ value_at-append k is done (scaled k t.coefficient own) w ∙ ap (plus k (value_at k done w)) (value_at-scaled k is t.coefficient own w)
+-- a word itself
+pub multiple_of_single : (k : FieldValue) (by : ℕ) (w : List ℕ) → IsElement k by → record { word = w; coefficient = by } ∷ [] ≡ scaled k by (single w)
+multiple_of_single k by w e = ap (λ n. record { word = w; coefficient = n } ∷ []) (sym (times_one k by e))
 
 -- ---- the two parts of a derivative
 
@@ -113,19 +106,36 @@ chosen_other a b u other = at (nat_eq a b) refl
     at true e = absurd (other ((Decides-eqb a b).0 e))
     at false e = refl
 
-derived_parts : (braid : BraidValue) (k : FieldValue) (table : List PlainRelation) (u : List ℕ) (form own r : Combination) (a b by c : ℕ) → k ≡ braid.field → own ≡ (if nat_eq a b then single u else []) → by ≡ scalar braid a b → c ≡ act braid a b →
-    HasSameValues k r (own ++ scaled k by (followed_form k table form c)) → HasSameValues braid.field r (derived_from braid table u form a b)
+-- a derivative, put behind other terms
+derived_put : (braid : BraidValue) (k : FieldValue) (table : List PlainRelation) (u : List ℕ) (form before own middle after : Combination) (a b by c : ℕ) → k ≡ braid.field → own ≡ (if nat_eq a b then single u else []) → by ≡ scalar braid a b →
+    c ≡ act braid a b → middle ≡ before ++ own → after ≡ middle ++ scaled k by (followed_form k table form c) → after ≡ before ++ derived_from braid table u form a b
 unfolding derived_from
-derived_parts braid k table u form own r a b by c k_is own_is by_is c_is h =
+derived_put braid k table u form before own middle after a b by c k_is own_is by_is c_is first rest =
     let f : FieldValue = braid.field in
-    subst (λ o. HasSameValues f r (o ++ scaled f (scalar braid a b) (followed_form f table form (act braid a b)))) own_is
-    (subst (λ q. HasSameValues f r (own ++ scaled f q (followed_form f table form (act braid a b)))) by_is
-    (subst (λ d. HasSameValues f r (own ++ scaled f by (followed_form f table form d))) c_is (subst (λ l. HasSameValues l r (own ++ scaled l by (followed_form l table form c))) k_is h)))
+    rest ∙ ap (λ m. m ++ scaled k by (followed_form k table form c)) first ∙ append_assoc before own (scaled k by (followed_form k table form c))
+    ∙ ap (λ g. before ++ g)
+    (ap (λ o. o ++ scaled k by (followed_form k table form c)) own_is
+    ∙ ap (λ g. (if nat_eq a b then single u else []) ++ g)
+    (ap (λ l. scaled l by (followed_form l table form c)) k_is ∙ ap (λ q. scaled f q (followed_form f table form c)) by_is ∙ ap (λ d. scaled f (scalar braid a b) (followed_form f table form d)) c_is))
 
-pub derived_by_own : (braid : BraidValue) (k : FieldValue) (table : List PlainRelation) (u : List ℕ) (form own r : Combination) (a b by c : ℕ) → k ≡ braid.field → a ≡ b → own ≡ single u → by ≡ scalar braid a b → c ≡ act braid a b →
-    HasSameValues k r (own ++ scaled k by (followed_form k table form c)) → HasSameValues braid.field r (derived_from braid table u form a b)
-derived_by_own braid k table u form own r a b by c k_is same own_is = derived_parts braid k table u form own r a b by c k_is (own_is ∙ sym (chosen_same a b u same))
+pub derived_by_own : (braid : BraidValue) (k : FieldValue) (table : List PlainRelation) (u : List ℕ) (form before middle after : Combination) (a b by c : ℕ) → k ≡ braid.field → a ≡ b → by ≡ scalar braid a b → c ≡ act braid a b → middle ≡ before ++ single u →
+    after ≡ middle ++ scaled k by (followed_form k table form c) → after ≡ before ++ derived_from braid table u form a b
+derived_by_own braid k table u form before middle after a b by c k_is same = derived_put braid k table u form before (single u) middle after a b by c k_is (sym (chosen_same a b u same))
 
-pub derived_by_others : (braid : BraidValue) (k : FieldValue) (table : List PlainRelation) (u : List ℕ) (form own r : Combination) (a b by c : ℕ) → k ≡ braid.field → a ≢ b → own ≡ [] → by ≡ scalar braid a b → c ≡ act braid a b →
-    HasSameValues k r (own ++ scaled k by (followed_form k table form c)) → HasSameValues braid.field r (derived_from braid table u form a b)
-derived_by_others braid k table u form own r a b by c k_is other own_is = derived_parts braid k table u form own r a b by c k_is (own_is ∙ sym (chosen_other a b u other))
+pub derived_by_others : (braid : BraidValue) (k : FieldValue) (table : List PlainRelation) (u : List ℕ) (form before middle after : Combination) (a b by c : ℕ) → k ≡ braid.field → a ≢ b → by ≡ scalar braid a b → c ≡ act braid a b → middle ≡ before →
+    after ≡ middle ++ scaled k by (followed_form k table form c) → after ≡ before ++ derived_from braid table u form a b
+derived_by_others braid k table u form before middle after a b by c k_is other by_is c_is same =
+    derived_put braid k table u form before [] middle after a b by c k_is (sym (chosen_other a b u other)) by_is c_is (same ∙ sym (append-nil before))
+
+elements_chosen : (k : FieldValue) → IsField k → (b : Bool) (u : List ℕ) → AllElements k (if b then single u else [])
+elements_chosen k is true u = (one_is_element k is, tt)
+elements_chosen k is false u = tt
+
+-- its coefficients are elements of the field
+pub derived_from_elements : (braid : BraidValue) → IsField braid.field → (table : List PlainRelation) (u : List ℕ) (form : Combination) (a b : ℕ) → AllElements braid.field (derived_from braid table u form a b)
+unfolding derived_from
+derived_from_elements braid is table u form a b =
+    let k : FieldValue = braid.field in
+    let own : Combination = if nat_eq a b then single u else [] in
+    let later : Combination = scaled k (scalar braid a b) (followed_form k table form (act braid a b)) in
+    elements-append k own later (elements_chosen k is (nat_eq a b) u) (elements-scaled k is (scalar braid a b) (followed_form k table form (act braid a b)))

@@ -7,6 +7,7 @@ use Rattle.nichols_tensor.specs.Members.{IsIn}
 use Rattle.nichols_tensor.specs.Combination.{Combination, AllElements}
 use Rattle.nichols_tensor.specs.Words.{up_to, IsWordOver, with_letters}
 use Rattle.nichols_tensor.specs.WordOrder.{IsRising}
+use Rattle.nichols_words.specs.Word.{word_limit}
 use Rattle.nichols_tensor.proofs.Letters.{from_up_to, up_to_length}
 use Rattle.nichols_braid.specs.Braid.{BraidValue, IsBraid, IsLetter}
 use Rattle.nichols_braid.specs.Kernel.{is_killed}
@@ -36,10 +37,10 @@ use Rattle.nichols_block.proofs.Split.{IsSaid, AllSaid, HaveEntries, split_says,
 
 -- ---- the candidates
 
-pub basis_is_short : (braid : BraidValue) (m : ℕ) (us : List (List ℕ)) → us ≡ basis is_killed braid m → m < 60 → AllByRecursion (λ w. length w < 60) us
+pub basis_is_short : (braid : BraidValue) (m : ℕ) (us : List (List ℕ)) → us ≡ basis is_killed braid m → m < word_limit → AllByRecursion (λ w. length w < word_limit) us
 basis_is_short braid m us e less =
-    subst (AllByRecursion (λ w. length w < 60)) (sym e)
-    (all_of_entries (λ w. length w < 60) (basis is_killed braid m) (λ w i. let size : length w ≡ m = (from_basis is_killed braid m w i).0 in omega arith))
+    subst (AllByRecursion (λ w. length w < word_limit)) (sym e)
+    (all_of_entries (λ w. length w < word_limit) (basis is_killed braid m) (λ w i. let size : length w ≡ m = (from_basis is_killed braid m w i).0 in omega arith))
 
 pub basis_is_rising : (braid : BraidValue) (m : ℕ) (us : List (List ℕ)) → us ≡ basis is_killed braid m → IsRising us
 basis_is_rising braid m us e = subst IsRising (sym e) (basis_rises is_killed braid m)

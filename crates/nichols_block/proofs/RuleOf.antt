@@ -9,6 +9,7 @@ use Rattle.nichols_tensor.specs.Members.{IsIn}
 use Rattle.nichols_tensor.specs.Combination.{Combination, AllElements, AllAmong, single}
 use Rattle.nichols_tensor.specs.Words.{up_to, IsWordOver, with_letters}
 use Rattle.nichols_tensor.specs.WordOrder.{IsRising}
+use Rattle.nichols_words.specs.Word.{word_limit}
 use Rattle.nichols_tensor.proofs.Entries.{from_filter}
 use Rattle.nichols_braid.specs.Braid.{BraidValue, IsBraid, IsLetter}
 use Rattle.nichols_braid.specs.Derivation.{derived}
@@ -91,12 +92,12 @@ derived_form_elements braid is (suc p) w a i letter =
     let own : (length w ≡ suc p) × IsWordOver braid.letters w × (is_least is_killed braid w ≡ true) = from_basis is_killed braid (suc p) w i in
     (derived_form_is_normal braid is p w a own.0 own.1 letter).elements
 
-basis_short : (braid : BraidValue) (p : ℕ) (f : Combination) → p < 60 → AllAmong f (basis is_killed braid p) → AllShort f
+basis_short : (braid : BraidValue) (p : ℕ) (f : Combination) → p < word_limit → AllAmong f (basis is_killed braid p) → AllShort f
 unfolding AllAmong
 basis_short braid p [] less h = tt
 basis_short braid p (t ∷ f) less h = (let e : length t.word ≡ p = (from_basis is_killed braid p t.word h.0).0 in omega arith, basis_short braid p f less h.1)
 
-pub derived_form_short : (braid : BraidValue) → IsBraid braid → (m : ℕ) (w : List ℕ) (a : ℕ) → m < 60 → IsIn w (basis is_killed braid m) → IsLetter braid a → AllShort (derived_form braid m w a)
+pub derived_form_short : (braid : BraidValue) → IsBraid braid → (m : ℕ) (w : List ℕ) (a : ℕ) → m < word_limit → IsIn w (basis is_killed braid m) → IsLetter braid a → AllShort (derived_form braid m w a)
 unfolding derived_form
 derived_form_short braid is zero w a less i letter = tt
 derived_form_short braid is (suc p) w a less i letter =

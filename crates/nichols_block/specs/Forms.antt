@@ -4,6 +4,7 @@ use Rattle.std.specs.List.{AllByRecursion}
 use Rattle.nichols_field.specs.Field.{FieldValue}
 use Rattle.nichols_tensor.specs.Combination.{Combination, AllElements, same_letters, single, scaled, extended}
 use Rattle.nichols_tensor.specs.WordOrder.{IsRising}
+use Rattle.nichols_words.specs.Word.{word_limit}
 use Rattle.nichols_braid.specs.Braid.{BraidValue, act, scalar}
 use Rattle.nichols_tensor.specs.Relation.{PlainRelation}
 
@@ -30,6 +31,6 @@ unfoldable pub derived_from : BraidValue → List PlainRelation → List ℕ →
 derived_from braid table u f a b =
     (if nat_eq a b then single u else []) ++ scaled braid.field (scalar braid a b) (followed_form braid.field table f (act braid a b))
 
--- each word has fewer than 60 letters, so that a letter may be put behind
+-- each word has room for a letter behind
 abbrev pub AllShort : Combination → Type 0
-AllShort f = AllByRecursion (λ t. length t.word < 60) f
+AllShort f = AllByRecursion (λ t. length t.word < word_limit) f

@@ -1,6 +1,7 @@
 //! A degree from the degree below.
 
 ghost use Rattle.std.specs.Prelude.{◌<◌, IfOk, suc};
+ghost use Rattle.nichols_block.specs.Levels.{degree_limit};
 ghost use Rattle.nichols_block.specs.Rule.{IsRuleOf};
 
 use crate::derivatives::all_derivatives;
@@ -24,7 +25,7 @@ pub fn make_degree(
     lower: &DegreeRule,
 ) -> Result<DegreeRule, AllocError>
     requires rule { IsRuleOf braid.now lower.now.degree lower.now }
-    requires degree { lower.now.degree < 60 }
+    requires degree { lower.now.degree < degree_limit }
     ensures { IfOk result (IsRuleOf braid.now (suc lower.now.degree)) }
 {
     let field = braid.field();

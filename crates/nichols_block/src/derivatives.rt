@@ -1,85 +1,125 @@
 //! Derivatives of candidates, in normal form over the degree below.
 
-ghost use Rattle.std.specs.Prelude.{◌≡◌, ◌<◌, ◌++◌, ◌∷◌, IfOk, List, [], length, map, suc};
+ghost use Rattle.std.specs.Prelude.{◌≡◌, ◌<◌, ◌++◌, ◌∷◌, IfOk, [], length, map, suc};
 ghost use Rattle.std.specs.Result.{OnOk};
 ghost use Rattle.nichols_field.specs.Field.{IsElement};
 ghost use Rattle.nichols_tensor.specs.Combination.{AllElements, HasSameValues, scaled};
 ghost use Rattle.nichols_tensor.specs.Members.{IsIn};
 ghost use Rattle.nichols_tensor.specs.WordOrder.{IsOrdered};
-ghost use Rattle.nichols_tensor.specs.Words.{IsLetterOf, up_to};
+ghost use Rattle.nichols_tensor.specs.Words.{IsLetterOf, letter_limit, up_to};
+ghost use Rattle.nichols_words.specs.Word.{word_limit};
 ghost use Rattle.nichols_braid.specs.Braid.{IsLetter};
 ghost use Rattle.nichols_braid.specs.Kernel.{is_killed};
 ghost use Rattle.nichols_braid.specs.Least.{basis, candidates, relations};
 ghost use Rattle.nichols_block.specs.Forms.{AllShort, IsTable, derived_from, followed_form, form_in};
+ghost use Rattle.nichols_block.specs.Levels.{degree_limit};
 ghost use Rattle.nichols_block.specs.Rule.{IsRuleOf, derived_forms};
 
 use crate::rule::{DegreeRule, Derivatives};
 use nichols_braid::Braid;
 use nichols_field::Field;
-use nichols_words::{Comb, Relation, Word};
+use nichols_words::{Comb, Relation, Term, Word};
 use std::alloc::{AllocError, Global};
 
-/// A sum with a multiple of the form of a candidate: that of its relation, or the candidate itself where it has none.
-fn with_form(
-    alloc: Global,
+/// Puts the terms of a multiple of a form behind the terms that are there.
+fn put_multiple(field: Field, by: u32, form: &Comb, terms: &mut Vec<Term>) -> Result<(), AllocError>
+    requires factor { IsElement field by }
+    requires form { AllElements field form.now }
+    ensures { OnOk result (terms.new.items ≡ terms.old.items ++ scaled field by form.now) }
+{
+    for term in form.terms() {
+        terms.push(Term {
+            word: term.word,
+            coefficient: field.mul(by, term.coefficient),
+        })?;
+    }
+    Ok(())
+}
+
+/// Puts a multiple of the form of a candidate behind the terms that are there: that of its relation, or the candidate
+/// itself where it has none.
+fn put_form(
     field: Field,
-    total: &Comb,
     by: u32,
     table: &[Relation],
     candidate: Word,
-) -> Result<Comb, AllocError>
+    terms: &mut Vec<Term>,
+) -> Result<(), AllocError>
     requires factor { IsElement field by }
-    requires total { AllElements field total.now }
     requires table { IsTable field table.now }
-    ensures value { IfOk result (λ r. HasSameValues field r (total.now ++ scaled field by (form_in table.now candidate))) }
-    ensures elements { IfOk result (AllElements field) }
-    ensures shape { IfOk result IsOrdered }
+    ensures { OnOk result (terms.new.items ≡ terms.old.items ++ scaled field by (form_in table.now candidate)) }
 {
-    let _modulus = field.modulus();
     match table.binary_search_by_key(&candidate, |relation| relation.candidate) {
         Ok(k) => {
             let relation = &table[k];
-            total.add_scaled(alloc, field, by, &relation.form)
+            put_multiple(field, by, &relation.form, terms)
         }
         Err(_) => {
-            let itself = Comb::single(alloc, field, candidate, 1)?;
-            total.add_scaled(alloc, field, by, &itself)
+            terms.push(Term {
+                word: candidate,
+                coefficient: by,
+            })?;
+            Ok(())
         }
     }
 }
 
-/// A sum with a multiple of `f x_c` in normal form, where f is the form of a derivative.
-fn with_followed(
-    alloc: Global,
+/// Puts a multiple of `f x_c` in normal form behind the terms that are there, where f is the form of a derivative.
+fn put_followed_form(
     field: Field,
-    total: Comb,
     by: u32,
     table: &[Relation],
     form: &Comb,
     letter: u8,
-) -> Result<Comb, AllocError>
+    terms: &mut Vec<Term>,
+) -> Result<(), AllocError>
     requires factor { IsElement field by }
-    requires total { AllElements field total }
-    requires total_shape { IsOrdered total }
     requires table { IsTable field table.now }
     requires form { AllElements field form.now }
     requires short { AllShort form.now }
-    requires letter { IsLetterOf 24 letter }
-    ensures value { IfOk result (λ r. HasSameValues field r (total ++ scaled field by (followed_form field table.now form.now letter))) }
-    ensures elements { IfOk result (AllElements field) }
-    ensures shape { IfOk result IsOrdered }
+    requires letter { IsLetterOf letter_limit letter }
+    ensures { OnOk result (terms.new.items ≡ terms.old.items ++ scaled field by (followed_form field table.now form.now letter)) }
 {
-    let _modulus = field.modulus();
-    let mut sum = total;
     for term in form.terms() {
         let factor = field.mul(by, term.coefficient);
         let candidate = term.word.followed_by(letter);
-        sum = with_form(alloc, field, &sum, factor, table, candidate)?;
+        put_form(field, factor, table, candidate, terms)?;
     }
-    Ok(sum)
+    Ok(())
+}
+
+/// Puts the derivative by a of `u x_b` behind the terms that are there, from the form of that of u.
+fn put_derivative(
+    braid: &Braid,
+    table: &[Relation],
+    u: Word,
+    form: &Comb,
+    a: u8,
+    b: u8,
+    terms: &mut Vec<Term>,
+) -> Result<(), AllocError>
+    requires table { IsTable braid.now.field table.now }
+    requires form { AllElements braid.now.field form.now }
+    requires short { AllShort form.now }
+    requires left { IsLetter braid.now a }
+    requires right { IsLetter braid.now b }
+    ensures { OnOk result (terms.new.items ≡ terms.old.items ++ derived_from braid.now table.now u form.now a b) }
+{
+    let field = braid.field();
+    if a == b {
+        terms.push(Term {
+            word: u,
+            coefficient: 1,
+        })?;
+    }
+    let by = braid.scalar(a, b);
+    let letter = braid.act(a, b);
+    put_followed_form(field, by, table, form, letter, terms)
 }
 
 /// The normal form of the derivative by a of `u x_b`, from the form of that of u.
+///
+/// Its terms are collected in `terms`, in place of what that had, so that one list serves many derivatives.
 fn derivative(
     alloc: Global,
     braid: &Braid,
@@ -88,6 +128,7 @@ fn derivative(
     form: &Comb,
     a: u8,
     b: u8,
+    terms: &mut Vec<Term>,
 ) -> Result<Comb, AllocError>
     requires table { IsTable braid.now.field table.now }
     requires form { AllElements braid.now.field form.now }
@@ -99,15 +140,9 @@ fn derivative(
     ensures shape { IfOk result IsOrdered }
 {
     let field = braid.field();
-    let _modulus = field.modulus();
-    let own = if a == b {
-        Comb::single(alloc, field, u, 1)?
-    } else {
-        Comb::zero(alloc)
-    };
-    let by = braid.scalar(a, b);
-    let letter = braid.act(a, b);
-    with_followed(alloc, field, own, by, table, form, letter)
+    terms.clear();
+    put_derivative(braid, table, u, form, a, b, terms)?;
+    Comb::sum_of(alloc, field, terms.as_slice())
 }
 
 /// The normal forms of the derivatives of `u x_b`, from those of the least word u.
@@ -120,17 +155,18 @@ fn derivatives(
     b: u8,
 ) -> Result<Derivatives, AllocError>
     requires word { IsIn u (basis is_killed braid.now (length u)) }
-    requires short { length u < 60 }
+    requires short { length u < word_limit }
     requires table { table.now ≡ relations is_killed braid.now (length u) }
     requires forms { forms.now ≡ derived_forms braid.now (length u) u }
     requires letter { IsLetter braid.now b }
     ensures { IfOk result (λ r. r ≡ derived_forms braid.now (suc (length u)) (u ++ b ∷ [])) }
 {
     let _field = braid.field();
+    let mut terms = Vec::new(alloc);
     let mut out = Vec::new(alloc);
     for a in 0..braid.letters() {
         let form = &forms[usize::from(a)];
-        out.push(derivative(alloc, braid, table, u, form, a + 1, b)?)?;
+        out.push(derivative(alloc, braid, table, u, form, a + 1, b, &mut terms)?)?;
     }
     Ok(Derivatives::of(out))
 }
@@ -145,7 +181,7 @@ fn push_derivatives(
     out: &mut Vec<Derivatives>,
 ) -> Result<(), AllocError>
     requires word { IsIn u (basis is_killed braid.now (length u)) }
-    requires short { length u < 60 }
+    requires short { length u < word_limit }
     requires table { table.now ≡ relations is_killed braid.now (length u) }
     requires forms { forms.now ≡ derived_forms braid.now (length u) u }
     ensures { OnOk result (out.new.items ≡ out.old.items ++ map (λ b. derived_forms braid.now (suc (length u)) (u ++ b ∷ [])) (up_to braid.now.letters)) }
@@ -163,7 +199,7 @@ pub(crate) fn all_derivatives(
     lower: &DegreeRule,
 ) -> Result<Vec<Derivatives>, AllocError>
     requires rule { IsRuleOf braid.now lower.now.degree lower.now }
-    requires degree { lower.now.degree < 60 }
+    requires degree { lower.now.degree < degree_limit }
     ensures { IfOk result (λ r. r.items ≡ map (derived_forms braid.now (suc lower.now.degree)) (candidates is_killed braid.now (suc lower.now.degree))) }
 {
     let table = lower.table.as_slice();

@@ -1,4 +1,5 @@
 use Rattle.std.proofs.Common.{◌≡◌, ◌<◌, length, arith, sym, ◌∙◌, ap, subst}
+use Rattle.nichols_words.specs.Word.{word_limit}
 use Rattle.nichols_braid.specs.Kernel.{is_killed}
 use Rattle.nichols_braid.specs.Least.{basis, relations}
 use Rattle.nichols_block.specs.Rule.{PlainRule}
@@ -22,7 +23,7 @@ push_derivatives-requires-clause-short c =
     let rule : PlainRule = c.args.lower.now in
     let us : c.as_slice-u-items.result.now ≡ basis is_killed c.args.braid.now rule.degree = c.as_slice-u-items.ensures.value ∙ ap (λ (r : PlainRule). r.basis) c.lower.view_is ∙ rule_basis c.args.braid.now rule.degree rule c.requires.rule in
     let size : length c.u-item.result ≡ rule.degree = (least_entry c.args.braid.now rule.degree c.as_slice-u-items.result.now c.loop-k.k c.u-item.result us (omega arith) c.u-item.is).1 in
-    subst (λ n. n < 60) (sym size) c.requires.degree
+    subst (λ n. n < word_limit) (sym size) c.requires.degree
 
 pub push_derivatives-requires-clause-table : goal.push_derivatives-requires-clause-table
 push_derivatives-requires-clause-table c =
