@@ -11,3 +11,4 @@ pub mod Letters
 pub mod Rising
 pub mod AllWords
 pub mod Tests
+pub mod Permuted
