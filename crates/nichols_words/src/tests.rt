@@ -109,6 +109,26 @@ fn sums_of_several_terms(rt: HostRuntime) -> Result<(), Fail> {
     Ok(())
 }
 
+/// `1*1.2 + 7*3 + 0*5 + 2*1.2 + 5*3.1 + 4*2 + 96*3.1` is `4*2 + 7*3 + 3*1.2`.
+#[test]
+fn a_sum_of_terms_in_any_order(rt: HostRuntime) -> Result<(), Fail> {
+    let field = Field::new(101).ok().ok_or("the field")?;
+    let terms = [
+        term(&[1, 2], field.from_i64(1)),
+        term(&[3], field.from_i64(7)),
+        term(&[5], field.from_i64(0)),
+        term(&[1, 2], field.from_i64(2)),
+        term(&[3, 1], field.from_i64(5)),
+        term(&[2], field.from_i64(4)),
+        term(&[3, 1], field.from_i64(96)),
+    ];
+    let sum = Comb::sum_of(rt.alloc(), field, &terms)?;
+    assert!(rt; has_terms(&sum, &[term(&[2], 4), term(&[3], 7), term(&[1, 2], 3)]));
+    let none = Comb::sum_of(rt.alloc(), field, &[])?;
+    assert!(rt; none.is_zero());
+    Ok(())
+}
+
 #[test]
 fn terms_in_and_out(rt: HostRuntime) -> Result<(), Fail> {
     let mut f = Comb::zero(rt.alloc());
