@@ -14,6 +14,7 @@ use Rattle.nichols_braid.specs.Kernel.{is_killed}
 use Rattle.nichols_braid.specs.Least.{basis, candidates, relations}
 use Rattle.nichols_tensor.specs.Relation.{PlainRelation}
 use Rattle.nichols_tensor.proofs.Tests.{all_of_entries}
+use Rattle.nichols_tensor.proofs.Pushed.{with_letters_length}
 use Rattle.nichols_braid.specs.LeastLaws.{IsNormalForm}
 use Rattle.nichols_braid.proofs.BraidLaws.{killed_is_linear}
 use Rattle.nichols_braid.proofs.Reduction.{from_basis, basis_rises}
@@ -47,12 +48,6 @@ basis_is_rising braid m us e = subst IsRising (sym e) (basis_rises is_killed bra
 
 pub words_are_candidates : (braid : BraidValue) (m : ℕ) (us words : List (List ℕ)) (n : ℕ) → us ≡ basis is_killed braid m → n ≡ braid.letters → words ≡ flat_map (λ u. map (λ b. u ++ b ∷ []) (up_to n)) us → words ≡ candidates is_killed braid (suc m)
 words_are_candidates braid m us words n e letters h = h ∙ ap₂ (λ l vs. with_letters l vs) letters e ∙ sym (candidates_next is_killed braid m)
-
-with_letters_length : (n : ℕ) (us : List (List ℕ)) → length (with_letters n us) ≡ n * length us
-with_letters_length n [] = let e : ◌≡◌ {A = ℕ} 0 (n * 0) = omega arith in e
-with_letters_length n (u ∷ us) =
-    let e : n + n * length us ≡ n * suc (length us) = omega arith in
-    length-append (map (λ b. u ++ b ∷ []) (up_to n)) (with_letters n us) ∙ ap₂ (λ a b. a + b) (length-map (up_to n) (λ b. u ++ b ∷ []) ∙ up_to_length n) (with_letters_length n us) ∙ e
 
 -- ---- their rows
 
