@@ -42,18 +42,18 @@ degree_broken braid limit m dimensions before mid now sr a b c last status p h l
 pub ends_closed : (braid : BraidValue) (limit m size : ℕ) (dimensions : List ℕ) (before mid put now : Option (List ℕ)) (sr : Type 0) (a b c result : ℕ) → Progress braid limit m dimensions before mid → m ≤ limit → size ≡ dimension is_in_kernel braid m → size ≡ 0 →
     Appends mid put (degree_due braid m) → a ≤ b → PutsEnd (end_piece (Closed (m - 1) (sum (dimensions ++ size ∷ []))) (dimensions ++ size ∷ [])) (Some m) 0 put now (Rose b c) result → EndsAs (algebra_due braid limit) before now sr (Rose a c) result
 unfolding algebra_due
-ends_closed braid limit m size dimensions before mid put now sr a b c result p h e empty written less ended =
+ends_closed braid limit m size dimensions before mid put now sr a b c result p h e empty written less put_end =
     let done : List ℕ = dimensions ++ dimension is_in_kernel braid m ∷ [] in
     let end : IsAtEnd braid limit (m + 2) done (Closed (m - 1) (sum done)) 0 before put = progress_closed braid limit m dimensions before mid put p h ((Decides-eqb _ _).1 (sym e ∙ empty)) written in
     ends_last (algebra_due braid limit) (end_piece (Closed (m - 1) (sum done)) done) (m + 2) before put now sr a b c 0 end.put less end.status_is (Some m) (sym (last_degree-next m)) result
-    (subst (λ d. PutsEnd (end_piece (Closed (m - 1) (sum (dimensions ++ d ∷ []))) (dimensions ++ d ∷ [])) (Some m) 0 put now (Rose b c) result) e ended)
+    (subst (λ d. PutsEnd (end_piece (Closed (m - 1) (sum (dimensions ++ d ∷ []))) (dimensions ++ d ∷ [])) (Some m) 0 put now (Rose b c) result) e put_end)
 
 pub ends_limited : (braid : BraidValue) (limit m : ℕ) (dimensions : List ℕ) (before mid now : Option (List ℕ)) (sr : Type 0) (a b c result : ℕ) → Progress braid limit m dimensions before mid → m ≡ limit + 1 → a ≤ b →
     PutsEnd (end_piece (DegreeLimit limit) dimensions) (Some limit) 3 mid now (Rose b c) result → EndsAs (algebra_due braid limit) before now sr (Rose a c) result
 unfolding algebra_due
-ends_limited braid limit m dimensions before mid now sr a b c result p e less ended =
+ends_limited braid limit m dimensions before mid now sr a b c result p e less put_end =
     let end : IsAtEnd braid limit (limit + 2) dimensions (DegreeLimit limit) 3 before mid = progress_limit braid limit m dimensions before mid e p in
-    ends_last (algebra_due braid limit) (end_piece (DegreeLimit limit) dimensions) (limit + 2) before mid now sr a b c 3 end.put less end.status_is (Some limit) (sym (last_degree-next limit)) result ended
+    ends_last (algebra_due braid limit) (end_piece (DegreeLimit limit) dimensions) (limit + 2) before mid now sr a b c 3 end.put less end.status_is (Some limit) (sym (last_degree-next limit)) result put_end
 
 pub degree_put : (braid : BraidValue) (limit m size : ℕ) (dimensions : List ℕ) (before mid now : Option (List ℕ)) → Progress braid limit m dimensions before mid → m ≤ limit → size ≡ dimension is_in_kernel braid m → 0 < size → Appends mid now (degree_due braid m) →
     Progress braid limit (m + 1) (dimensions ++ size ∷ []) before now
