@@ -41,6 +41,15 @@ fn letters_and_prefixes(rt: HostRuntime) {
 }
 
 #[test]
+fn words_with_each_letter_behind(rt: HostRuntime) -> Result<(), Fail> {
+    let shorter = [Word::empty(), Word::empty().followed_by(3)];
+    let longer = with_letters(rt.alloc(), 2, &shorter)?;
+    let expected = [word(&[1]), word(&[2]), word(&[3, 1]), word(&[3, 2])];
+    assert!(rt; longer.as_slice() == expected.as_slice());
+    Ok(())
+}
+
+#[test]
 fn a_full_word_takes_no_letter(rt: HostRuntime) {
     let mut w = Word::empty();
     for _ in 0..60 {
