@@ -31,7 +31,7 @@ use Rattle.nichols_braid.proofs.Maps.{same_weight_on, weight-plus, extended_same
 use Rattle.nichols_braid.proofs.Congruences.{AreCongruent, congruent_sym, congruent_left, passes_too, zero_passes}
 use Rattle.nichols_braid.proofs.Independence.{basis_is_independent}
 use Rattle.nichols_braid.proofs.Candidates.{from_candidates}
-use Rattle.nichols_braid.proofs.Rows.{AreFunctionals}
+use Rattle.nichols_rows.proofs.Rows.{AreFunctionals}
 use Rattle.nichols_echelon.specs.Cells.{entry}
 use Rattle.nichols_echelon.proofs.Entries.{entry-nil, entry-append, entry_is_element}
 use Rattle.nichols_block.proofs.Lists.{all_mapped}

@@ -4,8 +4,7 @@ pub mod FormsOf
 pub mod Derived
 pub mod RuleOf
 pub mod RowShapes
-pub mod ReadingOf
+pub mod Popped
 pub mod Functionals
-pub mod Split
 pub mod NextRule
 pub mod Lowest

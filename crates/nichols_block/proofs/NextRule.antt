@@ -18,8 +18,7 @@ use Rattle.nichols_tensor.proofs.Pushed.{with_letters_length}
 use Rattle.nichols_braid.specs.LeastLaws.{IsNormalForm}
 use Rattle.nichols_braid.proofs.BraidLaws.{killed_is_linear}
 use Rattle.nichols_braid.proofs.Reduction.{from_basis, basis_rises}
-use Rattle.nichols_braid.proofs.Candidates.{from_candidates, candidates_rise, candidates_next, relations_are}
-use Rattle.nichols_braid.proofs.Spanning.{basis_among}
+use Rattle.nichols_braid.proofs.Candidates.{from_candidates, candidates_rise, candidates_next}
 use Rattle.nichols_braid.proofs.LeastLaws.{killed_candidates_span}
 use Rattle.nichols_echelon.specs.Cells.{Cell, entry}
 use Rattle.nichols_echelon.specs.Cells.{AllElements as AllCellsElements}
@@ -31,10 +30,10 @@ use Rattle.std.proofs.lemmas.Simd.{map-map}
 use Rattle.nichols_block.proofs.Lists.{all_mapped}
 use Rattle.nichols_block.specs.Rule.{derived_form, derived_forms, rule_of, IsRuleOf}
 use Rattle.nichols_block.specs.Rows.{form_cells, row_cells, IsFormOver}
-use Rattle.nichols_block.specs.Reading.{independent_in, dependent_in, IsInside}
+use Rattle.nichols_rows.specs.Reading.{independent_in, dependent_in}
 use Rattle.nichols_block.proofs.RuleOf.{derived_form_is_normal, rule_with, same_rule}
 use Rattle.nichols_block.proofs.Functionals.{row_number, rows_tell}
-use Rattle.nichols_block.proofs.Split.{IsSaid, AllSaid, HaveEntries, split_says, split_inside, least_are_independent, independent_in-map, relations_are_dependent}
+use Rattle.nichols_rows.proofs.Split.{HaveEntries, basis_is_read, relations_are_read, independent_in-map}
 
 -- ---- the candidates
 
@@ -123,19 +122,15 @@ rows_have_entries braid m rows h i column within =
 
 -- ---- what the places say
 
-said : (braid : BraidValue) → IsBraid braid → (m : ℕ) (rows : List (List Cell)) (places : List Place) → AreRowsOf braid m rows → IsSplit braid.field rows places →
-    AllSaid (IsSaid is_killed braid (suc m) (candidates is_killed braid (suc m))) (candidates is_killed braid (suc m)) places
-said braid is m rows places h split =
-    split_says is_killed braid is.field (suc m) (killed_is_linear braid is (suc m)) (candidates is_killed braid (suc m)) (killed_candidates_span braid is (suc m)) (row_number braid m) (rows_tell braid is m) rows
-    (rows_count braid m (candidates is_killed braid (suc m)) rows refl h) (rows_have_entries braid m rows h) places split
-
 least_read : (braid : BraidValue) → IsBraid braid → (m : ℕ) (rows : List (List Cell)) (places : List Place) → AreRowsOf braid m rows → IsSplit braid.field rows places → independent_in (candidates is_killed braid (suc m)) places ≡ basis is_killed braid (suc m)
 least_read braid is m rows places h split =
-    least_are_independent is_killed braid (suc m) (candidates is_killed braid (suc m)) (candidates is_killed braid (suc m)) places (said braid is m rows places h split)
-    ∙ sym (basis_among is_killed braid is.field (suc m) (killed_is_linear braid is (suc m)) (candidates is_killed braid (suc m)) (killed_candidates_span braid is (suc m)))
+    basis_is_read is_killed braid is.field (suc m) (killed_is_linear braid is (suc m)) (candidates is_killed braid (suc m)) (killed_candidates_span braid is (suc m)) (row_number braid m) (rows_tell braid is m) rows
+    (rows_count braid m (candidates is_killed braid (suc m)) rows refl h) (rows_have_entries braid m rows h) places split
 
-pub places_inside : (k : FieldValue) (rows : List (List Cell)) (words : List (List ℕ)) (places : List Place) → length rows ≡ length words → IsSplit k rows places → AllByRecursion (IsInside (length words)) places
-places_inside k rows words places e split = subst (λ n. AllByRecursion (IsInside n) places) e (split_inside k rows places split)
+relations_read : (braid : BraidValue) → IsBraid braid → (m : ℕ) (rows : List (List Cell)) (places : List Place) → AreRowsOf braid m rows → IsSplit braid.field rows places → dependent_in (candidates is_killed braid (suc m)) (candidates is_killed braid (suc m)) places ≡ relations is_killed braid (suc m)
+relations_read braid is m rows places h split =
+    relations_are_read is_killed braid is.field (suc m) (killed_is_linear braid is (suc m)) (candidates is_killed braid (suc m)) refl (killed_candidates_span braid is (suc m)) (row_number braid m) (rows_tell braid is m) rows
+    (rows_count braid m (candidates is_killed braid (suc m)) rows refl h) (rows_have_entries braid m rows h) places split
 
 pub words_rise : (braid : BraidValue) (m : ℕ) (words : List (List ℕ)) → words ≡ candidates is_killed braid (suc m) → IsRising words
 words_rise braid m words e = subst IsRising (sym e) (candidates_rise is_killed braid (suc m))
@@ -151,4 +146,4 @@ next_rule braid is m words derivs rows places d us ds ts w v h split degree u e 
     let least : us ≡ basis is_killed braid (suc m) = u ∙ ap (λ xs. independent_in xs places) w ∙ least_read braid is m rows places h split in
     same_rule d (suc m) us (basis is_killed braid (suc m)) ds (map (derived_forms braid (suc m)) (basis is_killed braid (suc m))) ts (relations is_killed braid (suc m)) (degree ∙ one) least
     (e ∙ ap (λ xs. independent_in xs places) v ∙ independent_in-map (derived_forms braid (suc m)) cs places ∙ ap (map (derived_forms braid (suc m))) (least_read braid is m rows places h split))
-    (t ∙ ap (λ xs. dependent_in xs xs places) w ∙ relations_are_dependent is_killed braid (suc m) cs cs places (said braid is m rows places h split) ∙ sym (relations_are is_killed braid (suc m)))
+    (t ∙ ap (λ xs. dependent_in xs xs places) w ∙ relations_read braid is m rows places h split)

@@ -5,7 +5,7 @@ use Rattle.std.specs.List.Sorted.{IsBinarySearchResult, IsSearchInRange}
 use Rattle.std.specs.Cmp.Lexicographic.{same_text, other_text}
 use Rattle.std.specs.declared.cmp.Ordering.TheVariants.{Less}
 use Rattle.std.proofs.lemmas.Bool.{cases_lt}
-use Rattle.std.proofs.lemmas.List.{map-id, take_more, append-nil}
+use Rattle.std.proofs.lemmas.List.{map-id, take_more, append-nil, length-take-le}
 use Rattle.nichols_tensor.specs.Members.{IsIn}
 use Rattle.nichols_tensor.specs.Combination.{Term, Combination, AllAmong, AllNonzero, words_of, same_letters}
 use Rattle.nichols_tensor.specs.Positions.{word_at}
@@ -16,7 +16,6 @@ use Rattle.nichols_tensor.proofs.Rising.{words_at_rise, position_below}
 use Rattle.nichols_echelon.specs.Cells.{Cell, IsRow, IsBelowFirst, columns_of, AllBelow}
 use Rattle.nichols_echelon.specs.Cells.{IsRising as AreRising, AllNonzero as AllCellsNonzero}
 use Rattle.nichols_echelon.proofs.Shapes.{all_append}
-use Rattle.nichols_block.proofs.Lists.{length_front}
 use Rattle.nichols_block.specs.Rows.{place_in, form_cells, row_cells, IsFormOver}
 use Rattle.nichols_block.proofs.Searching.{search_says}
 
@@ -144,6 +143,6 @@ row_cells-push ws offset (g ∷ forms) f =
 pub row_cells-more : (ws : List (List ℕ)) (forms : List Combination) (k offset : ℕ) (f g : Combination) (out more : List Cell) → k < length forms → f ≡ get_or forms k f → g ≡ f → offset ≡ k * length ws →
     out ≡ row_cells ws 0 (take k forms) → more ≡ out ++ form_cells ws offset g → more ≡ row_cells ws 0 (take (k + 1) forms)
 row_cells-more ws forms k offset f g out more less at view offset_is before pushed =
-    let e : offset ≡ 0 + length (take k forms) * length ws = offset_is ∙ ap (λ n. n * length ws) (sym (length_front forms k (omega arith))) ∙ (let z : length (take k forms) * length ws ≡ 0 + length (take k forms) * length ws = omega arith in z) in
+    let e : offset ≡ 0 + length (take k forms) * length ws = offset_is ∙ ap (λ n. n * length ws) (sym (length-take-le k forms (omega arith))) ∙ (let z : length (take k forms) * length ws ≡ 0 + length (take k forms) * length ws = omega arith in z) in
     pushed ∙ ap₂ (λ xs h. xs ++ form_cells ws offset h) before view ∙ ap (λ n. row_cells ws 0 (take k forms) ++ form_cells ws n f) e
     ∙ sym (ap (row_cells ws 0) (take_more forms k f less ∙ ap (λ h. take k forms ++ h ∷ []) (sym at)) ∙ row_cells-push ws 0 (take k forms) f)

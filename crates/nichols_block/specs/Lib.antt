@@ -1,5 +1,4 @@
 pub mod Rule
 pub mod Forms
 pub mod Rows
-pub mod Reading
 pub mod Levels

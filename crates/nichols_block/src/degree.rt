@@ -5,11 +5,12 @@ ghost use Rattle.nichols_block.specs.Levels.{degree_limit};
 ghost use Rattle.nichols_block.specs.Rule.{IsRuleOf};
 
 use crate::derivatives::all_derivatives;
-use crate::reading::{least_derivatives, least_words, relations};
+use crate::reading::least_derivatives;
 use crate::rows::rows_of;
 use crate::rule::DegreeRule;
 use nichols_braid::Braid;
 use nichols_echelon::split_rows;
+use nichols_rows::{least_words, relations};
 use nichols_words::with_letters;
 use std::alloc::{AllocError, Global};
 

@@ -80,17 +80,10 @@ candidates_rise vanishes braid (suc m) =
     let (b, o, d) = from_map (λ c. v ++ c ∷ []) y (up_to n) j in
     subst (λ z. word_cmp z y ≡ Less) (sym e) (subst (λ z. word_cmp (u ++ a ∷ []) z ≡ Less) (sym d) (push_less u v a b (r.1 ∙ sym r.2) r.0)))
 
--- ---- least words and relations of a list, word by word
+-- ---- least words and relations of a list
 
 abbrev pub least_of : Vanishing → BraidValue → List (List ℕ) → List (List ℕ)
 least_of vanishes braid ws = filter (is_least vanishes braid) ws
-
-pub least_of-least : (vanishes : Vanishing) (braid : BraidValue) (ws : List (List ℕ)) (w : List ℕ) → is_least vanishes braid w ≡ true → least_of vanishes braid (ws ++ w ∷ []) ≡ least_of vanishes braid ws ++ w ∷ []
-least_of-least vanishes braid ws w h = filter-append (is_least vanishes braid) ws (w ∷ []) ∙ ap (λ b. least_of vanishes braid ws ++ cond b (w ∷ []) []) h
-
-pub least_of-other : (vanishes : Vanishing) (braid : BraidValue) (ws : List (List ℕ)) (w : List ℕ) → is_least vanishes braid w ≡ false → least_of vanishes braid (ws ++ w ∷ []) ≡ least_of vanishes braid ws
-least_of-other vanishes braid ws w h =
-    filter-append (is_least vanishes braid) ws (w ∷ []) ∙ ap (λ b. least_of vanishes braid ws ++ cond b (w ∷ []) []) h ∙ append-nil (least_of vanishes braid ws)
 
 -- the word with its normal form in degree m
 abbrev pub relation_at : Vanishing → BraidValue → ℕ → List ℕ → PlainRelation
@@ -102,19 +95,3 @@ relations_of vanishes braid m ws = map (relation_at vanishes braid m) (filter (�
 pub relations_are : (vanishes : Vanishing) (braid : BraidValue) (m : ℕ) → relations vanishes braid m ≡ relations_of vanishes braid m (candidates vanishes braid m)
 unfolding relations
 relations_are vanishes braid m = refl
-
-pub relations_of-append : (vanishes : Vanishing) (braid : BraidValue) (m : ℕ) (vs ws : List (List ℕ)) → relations_of vanishes braid m (vs ++ ws) ≡ relations_of vanishes braid m vs ++ relations_of vanishes braid m ws
-relations_of-append vanishes braid m vs ws =
-    ap (map (relation_at vanishes braid m)) (filter-append (λ w. not (is_least vanishes braid w)) vs ws)
-    ∙ map-append (relation_at vanishes braid m) (filter (λ w. not (is_least vanishes braid w)) vs) (filter (λ w. not (is_least vanishes braid w)) ws)
-
-pub relations_of-least : (vanishes : Vanishing) (braid : BraidValue) (m : ℕ) (ws : List (List ℕ)) (w : List ℕ) → is_least vanishes braid w ≡ true → relations_of vanishes braid m (ws ++ w ∷ []) ≡ relations_of vanishes braid m ws
-relations_of-least vanishes braid m ws w h =
-    relations_of-append vanishes braid m ws (w ∷ [])
-    ∙ ap (λ b. relations_of vanishes braid m ws ++ map (relation_at vanishes braid m) (cond (not b) (w ∷ []) [])) h
-    ∙ append-nil (relations_of vanishes braid m ws)
-
-pub relations_of-other : (vanishes : Vanishing) (braid : BraidValue) (m : ℕ) (ws : List (List ℕ)) (w : List ℕ) → is_least vanishes braid w ≡ false →
-    relations_of vanishes braid m (ws ++ w ∷ []) ≡ relations_of vanishes braid m ws ++ relation_at vanishes braid m w ∷ []
-relations_of-other vanishes braid m ws w h =
-    relations_of-append vanishes braid m ws (w ∷ []) ∙ ap (λ b. relations_of vanishes braid m ws ++ map (relation_at vanishes braid m) (cond (not b) (w ∷ []) [])) h

@@ -22,7 +22,6 @@ pub mod NormalForms
 pub mod Candidates
 pub mod Agreement
 pub mod Spanning
-pub mod Rows
 pub mod LeastLaws
 pub mod FirstDegree
 pub mod Complete

@@ -16,5 +16,4 @@ pub mod IdealTest
 pub mod Laws
 pub mod LeastLaws
 pub mod End
-pub mod Rows
 pub mod TableLaws

@@ -19,7 +19,7 @@ use Rattle.nichols_braid.specs.Symmetrizer.{lifts, symmetrized}
 use Rattle.nichols_braid.specs.Kernel.{is_in_kernel}
 use Rattle.nichols_braid.proofs.Maps.{same_weight_on, everywhere}
 use Rattle.nichols_braid.proofs.Killed.{is_in_kernel_sound, is_in_kernel_complete}
-use Rattle.nichols_braid.proofs.Rows.{AreFunctionals}
+use Rattle.nichols_rows.proofs.Rows.{AreFunctionals}
 use Rattle.nichols_echelon.specs.Cells.{entry}
 use Rattle.nichols_lift.proofs.Step.{cross_length, cross_over}
 use Rattle.nichols_lift.proofs.Parts.{symmetrized_words}

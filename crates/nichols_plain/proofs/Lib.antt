@@ -1,5 +1,4 @@
 pub mod Numbers
 pub mod Functionals
-pub mod Fit
 pub mod Steps
 pub mod Sorting

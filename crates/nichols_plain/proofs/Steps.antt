@@ -6,7 +6,7 @@ use Rattle.std.proofs.Math.Nat.{pow-zero, pow-suc, pow-le-pow_right}
 use Rattle.nichols_field.specs.Field.{FieldValue}
 use Rattle.nichols_field.proofs.Primes.{two_bounds}
 use Rattle.nichols_tensor.specs.Combination.{Combination, HasSameValues, AllElements, single}
-use Rattle.nichols_tensor.specs.WordOrder.{IsRising, IsOrdered}
+use Rattle.nichols_tensor.specs.WordOrder.{IsRising}
 use Rattle.nichols_tensor.specs.Words.{up_to, words, IsWordOver, with_letters}
 use Rattle.nichols_tensor.proofs.Tests.{all_of_entries}
 use Rattle.nichols_tensor.proofs.Letters.{up_to_length}
@@ -14,23 +14,15 @@ use Rattle.nichols_tensor.proofs.Pushed.{with_letters_length}
 use Rattle.nichols_braid.specs.Braid.{BraidValue, IsBraid}
 use Rattle.nichols_braid.specs.Kernel.{is_in_kernel}
 use Rattle.nichols_braid.specs.Least.{basis, candidates, is_least}
-use Rattle.nichols_braid.specs.Rows.{made}
 use Rattle.nichols_braid.specs.Symmetrizer.{symmetrized}
 use Rattle.nichols_braid.proofs.Candidates.{candidates_first, candidates_next, from_candidates, candidates_rise}
 use Rattle.nichols_braid.proofs.Reduction.{from_basis}
-use Rattle.nichols_braid.proofs.Rows.{made_rises, made_nonzero}
 use Rattle.nichols_words.specs.Word.{word_limit}
-use Rattle.nichols_echelon.specs.Cells.{Cell, entry, AllBelow, IsRow}
+use Rattle.nichols_echelon.specs.Cells.{Cell, entry}
 use Rattle.nichols_echelon.specs.Cells.{AllElements as AllCellsElements}
 use Rattle.nichols_lift.specs.Lengths.{symmetrizer_limit}
 use Rattle.nichols_plain.specs.Columns.{HasColumns, numbered, image_entry}
 use Rattle.nichols_plain.proofs.Functionals.{entry_of_same, image_elements}
-
--- ---- a combination given by a row
-
-pub made_ordered : (ws : List (List ℕ)) → IsRising ws → (terms : Combination) (items row : List Cell) (i : ℕ) → items ≡ row → length items ≤ i → terms ≡ made ws (take i items) → AllBelow (length ws) row → IsRow row → IsOrdered terms
-made_ordered ws r terms items row i same end is below shape =
-    subst IsOrdered (sym (is ∙ ap (made ws) (take_all i items end ∙ same))) (record { rising = made_rises ws r row below shape.rising; nonzero = made_nonzero ws row shape.nonzero })
 
 -- ---- the row of an image
 

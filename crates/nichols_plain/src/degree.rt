@@ -1,18 +1,16 @@
 //! One degree of a Nichols algebra.
 
-ghost use Rattle.std.specs.Prelude.{◌≡◌, ◌<◌, ◌≤◌, ◌^◌, IfOk, length};
-ghost use Rattle.nichols_tensor.specs.WordOrder.{IsRising};
-ghost use Rattle.nichols_echelon.specs.Cells.{AllBelow};
+ghost use Rattle.std.specs.Prelude.{◌≡◌, ◌<◌, ◌≤◌, ◌^◌, IfOk};
 ghost use Rattle.nichols_braid.specs.Kernel.{is_in_kernel};
 ghost use Rattle.nichols_braid.specs.Least.{candidates};
-ghost use Rattle.nichols_braid.specs.Rows.{made};
 ghost use Rattle.nichols_lift.specs.Lengths.{symmetrizer_limit};
 ghost use Rattle.nichols_plain.specs.Degree.{IsDegree};
 
 use crate::images::image_rows;
 use nichols_braid::Braid;
-use nichols_echelon::{Place, Row, split_rows};
-use nichols_words::{Comb, Relation, Term, Word, with_letters};
+use nichols_echelon::split_rows;
+use nichols_rows::{least_words, relations};
+use nichols_words::{Relation, Word, with_letters};
 use std::alloc::{AllocError, Global};
 
 /// A degree of the Nichols algebra: its least words and its relations, both rising.
@@ -59,39 +57,12 @@ fn sorted_out(
     let field = braid.field();
     let rows = image_rows(alloc, braid, words)?;
     let places = split_rows(alloc, field, rows.as_slice())?;
-    let mut basis = Vec::new(alloc);
-    let mut relations = Vec::new(alloc);
-    for (i, word) in words.iter().enumerate() {
-        match &places[i] {
-            Place::Independent => basis.push(*word)?,
-            Place::Depends(row) => {
-                let form = combination_of(alloc, words, row)?;
-                relations.push(Relation {
-                    candidate: *word,
-                    form,
-                })?;
-            }
-        }
-    }
+    let found = places.as_slice();
+    let basis = least_words(alloc, words, found)?;
+    let relations = relations(alloc, words, found)?;
     Ok(PlainDegree {
         degree,
         basis,
         relations,
     })
-}
-
-/// The combination of words that a row gives by their positions.
-fn combination_of(alloc: Global, words: &[Word], row: &Row) -> Result<Comb, AllocError>
-    requires rising { IsRising words.now }
-    requires within { AllBelow (length words.now) row.now }
-    ensures { IfOk result (λ comb. comb ≡ made words.now row.now) }
-{
-    let mut terms = Vec::new(alloc);
-    for cell in row.cells() {
-        terms.push(Term {
-            word: words[cell.column as usize],
-            coefficient: cell.coefficient,
-        })?;
-    }
-    Ok(Comb::from_terms(terms))
 }

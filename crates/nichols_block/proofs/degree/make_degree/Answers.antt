@@ -5,9 +5,10 @@ use Rattle.nichols_braid.specs.Least.{basis, candidates}
 use Rattle.nichols_echelon.specs.Combination.{AllRowsElements}
 use Rattle.nichols_echelon.specs.Split.{IsSplit}
 use Rattle.nichols_block.specs.Rule.{PlainRule}
-use Rattle.nichols_block.specs.Reading.{IsInside, independent_in, dependent_in}
+use Rattle.nichols_rows.specs.Reading.{IsInside, independent_in, dependent_in}
 use Rattle.nichols_block.proofs.RuleOf.{rule_basis}
-use Rattle.nichols_block.proofs.NextRule.{basis_is_short, basis_is_rising, words_are_candidates, all_forms_over, all_forms_fit, AreRowsOf, rows_are, rows_have_elements, rows_count, places_inside, words_rise, next_rule}
+use Rattle.nichols_block.proofs.NextRule.{basis_is_short, basis_is_rising, words_are_candidates, all_forms_over, all_forms_fit, AreRowsOf, rows_are, rows_have_elements, rows_count, words_rise, next_rule}
+use Rattle.nichols_rows.proofs.Split.{places_inside}
 use Rattle.nichols_block.proofs.degree.make_degree.Goals as goal
 
 pub with_letters-requires-clause-room : goal.with_letters-requires-clause-room

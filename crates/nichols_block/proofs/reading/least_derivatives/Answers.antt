@@ -1,5 +1,5 @@
 use Rattle.std.proofs.Common.{arith}
-use Rattle.nichols_block.proofs.ReadingOf.{popped_pushed, popped_short}
+use Rattle.nichols_block.proofs.Popped.{popped_pushed, popped_short}
 use Rattle.nichols_block.proofs.reading.least_derivatives.Goals as goal
 
 pub loop-own-preserved : goal.loop-own-preserved

@@ -1,5 +1,5 @@
 use Rattle.std.proofs.Common.{◌≡◌, ◌++◌, ◌≤◌, take, length, reverse, vec_len}
-use Rattle.nichols_block.specs.Reading.{independent_in}
+use Rattle.nichols_rows.specs.Reading.{independent_in}
 use Rattle.nichols_block.proofs.reading.least_derivatives.Given as goal
 
 abbrev pub invariant-loop-own : goal.invariant-loop-own

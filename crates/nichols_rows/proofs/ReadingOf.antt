@@ -1,38 +1,25 @@
 -- What the loops over places put together.
 use Rattle.std.proofs.Common.{◌≡◌, ℕ, zero, suc, ◌+◌, ◌<◌, ◌≤◌, List, [], ◌∷◌, ◌++◌, length, get_or, take, reverse, refl, sym, ◌∙◌, ap, ap₂, subst, arith, append_assoc, length-append}
 use Rattle.std.specs.List.{AllByRecursion}
-use Rattle.std.proofs.lemmas.List.{take_more, take_all, append-nil, get_or_read, reverse-append}
+use Rattle.std.proofs.lemmas.List.{take_more, take_all, append-nil, get_or_read, length-take-le}
 use Rattle.nichols_tensor.specs.WordOrder.{IsRising, IsOrdered}
 use Rattle.nichols_tensor.specs.Positions.{word_at}
 use Rattle.nichols_tensor.specs.Relation.{PlainRelation}
-use Rattle.nichols_braid.specs.Rows.{made, AreRising}
-use Rattle.nichols_braid.specs.Rows.{columns_of as positions_of}
-use Rattle.nichols_braid.proofs.Rows.{made_rises, made_nonzero}
-use Rattle.nichols_echelon.specs.Cells.{Cell, IsRow, IsRising as AreColumnsRising, columns_of, AllBelow}
+use Rattle.nichols_echelon.specs.Cells.{Cell, IsRow, AllBelow}
 use Rattle.nichols_echelon.specs.declared.rows.Place.{Place}
 use Rattle.nichols_echelon.specs.declared.rows.Place.TheVariants.{Independent, Depends}
-use Rattle.nichols_block.proofs.Lists.{length_front}
-use Rattle.nichols_block.specs.Reading.{independent_in, dependent_in, IsInside}
+use Rattle.nichols_rows.specs.Made.{made}
+use Rattle.nichols_rows.specs.Reading.{independent_in, dependent_in, IsInside}
+use Rattle.nichols_rows.proofs.Rows.{made_is_ordered}
 
 -- ---- combinations at positions
-
-pub rising_positions : (cells : List Cell) → AreColumnsRising (columns_of cells) → AreRising (positions_of cells)
-rising_positions [] h = tt
-rising_positions (c ∷ []) h = (tt, tt)
-rising_positions (c ∷ d ∷ cells) h = (h.0, rising_positions (d ∷ cells) h.1)
-
-pub made_is_ordered : (ws : List (List ℕ)) → IsRising ws → (cells : List Cell) → IsRow cells → AllBelow (length ws) cells → IsOrdered (made ws cells)
-made_is_ordered ws rising cells shape below = record {
-  rising = made_rises ws rising cells below (rising_positions cells shape.rising);
-  nonzero = made_nonzero ws cells shape.nonzero;
-}
 
 pub form_is_ordered : (ws : List (List ℕ)) → IsRising ws → (cells : List Cell) (i : ℕ) (f : List _) → IsRow cells → AllBelow (length ws) cells → length cells ≤ i → f ≡ made ws (take i cells) → IsOrdered f
 form_is_ordered ws rising cells i f shape below past e = subst IsOrdered (sym (e ∙ ap (made ws) (take_all i cells past))) (made_is_ordered ws rising cells shape below)
 
 -- ---- entries with independent places
 
-independent_in-push : {X : Type 0} (xs : List X) (x : X) (ps : List Place) (p : Place) → length ps ≡ length xs → independent_in (xs ++ x ∷ []) (ps ++ p ∷ []) ≡ independent_in xs ps ++ independent_in (x ∷ []) (p ∷ [])
+pub independent_in-push : {X : Type 0} (xs : List X) (x : X) (ps : List Place) (p : Place) → length ps ≡ length xs → independent_in (xs ++ x ∷ []) (ps ++ p ∷ []) ≡ independent_in xs ps ++ independent_in (x ∷ []) (p ∷ [])
 independent_in-push [] x [] p e = refl
 independent_in-push [] x (q ∷ ps) p e = absurd (omega arith)
 independent_in-push (y ∷ xs) x [] p e = absurd (omega arith)
@@ -44,7 +31,7 @@ independent_more : {X : Type 0} (xs : List X) (ps : List Place) (k : ℕ) (x : X
 independent_more xs ps k x p e less =
     let less_ps : k < length ps = omega arith in
     ap₂ independent_in (take_more xs k x less) (take_more ps k p less_ps)
-    ∙ independent_in-push (take k xs) (get_or xs k x) (take k ps) (get_or ps k p) (length_front ps k (omega arith) ∙ sym (length_front xs k (omega arith)))
+    ∙ independent_in-push (take k xs) (get_or xs k x) (take k ps) (get_or ps k p) (length-take-le k ps (omega arith) ∙ sym (length-take-le k xs (omega arith)))
 
 pub kept_more : {X : Type 0} (xs : List X) (ps : List Place) (k : ℕ) (x : X) (p : Place) (out more : List X) → length ps ≡ length xs → k < length xs → x ≡ get_or xs k x → p ≡ get_or ps k p → p ≡ Independent →
     out ≡ independent_in (take k xs) (take k ps) → more ≡ out ++ x ∷ [] → more ≡ independent_in (take (k + 1) xs) (take (k + 1) ps)
@@ -57,32 +44,6 @@ pub skipped_more : {X : Type 0} (xs : List X) (ps : List Place) (k : ℕ) (d : X
 skipped_more xs ps k d p cells out more e less p_at is before same =
     same ∙ before
     ∙ sym (independent_more xs ps k d p e less ∙ ap (λ q. independent_in (take k xs) (take k ps) ++ independent_in (get_or xs k d ∷ []) (q ∷ [])) (sym p_at ∙ is) ∙ append-nil (independent_in (take k xs) (take k ps)))
-
--- ---- from the end
-
-popped_more : {X : Type 0} (left rest : List X) (x : X) (ps : List Place) (i : ℕ) (p : Place) → left ≡ rest ++ x ∷ [] → i ≡ length rest → length left ≤ length ps → p ≡ get_or ps i p →
-    independent_in left (take (length left) ps) ≡ independent_in rest (take (length rest) ps) ++ independent_in (x ∷ []) (p ∷ [])
-popped_more left rest x ps i p e i_is short at =
-    let longer : length left ≡ length rest + 1 = ap length e ∙ length-append rest (x ∷ []) in
-    let less : length rest < length ps = omega arith in
-    ap₂ (λ xs n. independent_in xs (take n ps)) e longer
-    ∙ ap (independent_in (rest ++ x ∷ [])) (take_more ps (length rest) p less ∙ ap (λ q. take (length rest) ps ++ q ∷ []) (ap (λ j. get_or ps j p) (sym i_is) ∙ sym at))
-    ∙ independent_in-push rest x (take (length rest) ps) p (length_front ps (length rest) (omega arith))
-
-pub popped_short : {X : Type 0} (left rest : List X) (x : X) (ps : List Place) → left ≡ rest ++ x ∷ [] → length left ≤ length ps → length rest ≤ length ps
-popped_short left rest x ps e short = let longer : length left ≡ length rest + 1 = ap length e ∙ length-append rest (x ∷ []) in omega arith
-
-reverse_one : {X : Type 0} (x : X) (p : Place) → reverse (independent_in (x ∷ []) (p ∷ [])) ≡ independent_in (x ∷ []) (p ∷ [])
-reverse_one x Independent = refl
-reverse_one x (Depends cells) = refl
-
-pub popped_pushed : {X : Type 0} (left rest : List X) (x : X) (ps : List Place) (i : ℕ) (p : Place) (out more whole : List X) → left ≡ rest ++ x ∷ [] → i ≡ length rest → length left ≤ length ps → p ≡ get_or ps i p →
-    more ≡ out ++ independent_in (x ∷ []) (p ∷ []) → independent_in left (take (length left) ps) ++ reverse out ≡ whole → independent_in rest (take (length rest) ps) ++ reverse more ≡ whole
-popped_pushed left rest x ps i p out more whole e i_is short at pushed h =
-    let front : List _ = independent_in rest (take (length rest) ps) in
-    let own : List _ = independent_in (x ∷ []) (p ∷ []) in
-    ap (λ zs. front ++ reverse zs) pushed ∙ ap (λ zs. front ++ zs) (reverse-append out own ∙ ap (λ zs. zs ++ reverse out) (reverse_one x p)) ∙ sym (append_assoc front own (reverse out))
-    ∙ ap (λ zs. zs ++ reverse out) (sym (popped_more left rest x ps i p e i_is short at)) ∙ h
 
 -- ---- words with other places
 
@@ -98,7 +59,7 @@ dependent_more : (all xs : List (List ℕ)) (ps : List Place) (k : ℕ) (p : Pla
 dependent_more all xs ps k p e less =
     let less_ps : k < length ps = omega arith in
     ap₂ (dependent_in all) (take_more xs k [] less) (take_more ps k p less_ps)
-    ∙ dependent_in-push all (take k xs) (word_at xs k) (take k ps) (get_or ps k p) (length_front ps k (omega arith) ∙ sym (length_front xs k (omega arith)))
+    ∙ dependent_in-push all (take k xs) (word_at xs k) (take k ps) (get_or ps k p) (length-take-le k ps (omega arith) ∙ sym (length-take-le k xs (omega arith)))
 
 pub related_more : (all xs : List (List ℕ)) (ps : List Place) (k : ℕ) (x : List ℕ) (p : Place) (out more : List PlainRelation) → length ps ≡ length xs → k < length xs → x ≡ get_or xs k x → p ≡ get_or ps k p →
     out ≡ dependent_in all (take k xs) (take k ps) → more ≡ out ++ dependent_in all (x ∷ []) (p ∷ []) → more ≡ dependent_in all (take (k + 1) xs) (take (k + 1) ps)

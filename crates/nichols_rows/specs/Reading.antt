@@ -1,7 +1,7 @@
 -- What the places of rows say of the words that have the rows.
 use Rattle.std.specs.Prelude.{ℕ, List, [], ◌∷◌}
 use Rattle.nichols_tensor.specs.Relation.{PlainRelation}
-use Rattle.nichols_braid.specs.Rows.{made}
+use Rattle.nichols_rows.specs.Made.{made}
 use Rattle.nichols_echelon.specs.Cells.{AllBelow}
 use Rattle.nichols_echelon.specs.declared.rows.Place.{Place}
 use Rattle.nichols_echelon.specs.declared.rows.Place.TheVariants.{Independent, Depends}

@@ -10,7 +10,7 @@ use Rattle.nichols_tensor.specs.Members.{IsIn}
 use Rattle.nichols_tensor.specs.Combination.{Combination, AllElements, AllNonzero, AllAmong, words_of, single, scaled, minus}
 use Rattle.nichols_tensor.specs.Positions.{word_at}
 use Rattle.nichols_tensor.specs.Words.{words_before}
-use Rattle.nichols_tensor.specs.WordOrder.{word_cmp, IsBelowFirst, IsRising}
+use Rattle.nichols_tensor.specs.WordOrder.{word_cmp, IsBelowFirst, IsRising, IsOrdered}
 use Rattle.nichols_tensor.proofs.Values.{weight, weight_is_element, weight-append, weight-scaled}
 use Rattle.nichols_tensor.proofs.Enumeration.{among-append, among-scaled}
 use Rattle.nichols_tensor.proofs.Building.{elements-append, elements-scaled}
@@ -20,13 +20,14 @@ use Rattle.nichols_braid.specs.Braid.{BraidValue}
 use Rattle.nichols_braid.specs.Kernel.{Vanishing}
 use Rattle.nichols_braid.specs.Least.{is_least, basis, normal_form}
 use Rattle.nichols_braid.specs.LinearTest.{IsLinearTest}
-use Rattle.nichols_braid.specs.Rows.{Cell, made, columns_of, AreRising, AllCellsBelow, AllCellsNonzero, AllCellsElements, combined_numbers}
-use Rattle.nichols_braid.specs.Rows.{IsBelowFirst as IsColumnBelow}
 use Rattle.nichols_braid.proofs.Congruences.{AreCongruent, reduced_with_elements}
 use Rattle.nichols_braid.proofs.LeastWords.{not_least_at}
 use Rattle.nichols_braid.proofs.Reduction.{in_basis}
 use Rattle.nichols_braid.proofs.NormalForms.{form_is}
 use Rattle.nichols_braid.proofs.Spanning.{IsSpanning, reduced_to_earlier_entries}
+use Rattle.nichols_echelon.specs.Cells.{Cell, IsRow, columns_of, AllBelow}
+use Rattle.nichols_echelon.specs.Cells.{AllElements as AllCellsElements, AllNonzero as AllCellsNonzero, IsBelowFirst as IsColumnBelow, IsRising as AreColumnsRising}
+use Rattle.nichols_rows.specs.Made.{made}
 
 -- numbers of words, a family of them, that tell which combinations of a list's words pass a test
 pub record AreFunctionals (k : FieldValue) (test : Combination → Bool) (ws : List (List ℕ)) (φ : ℕ → List ℕ → ℕ) : Type 0 where
@@ -70,20 +71,12 @@ rows_of_congruent k is test ws φ functionals w f i a h c =
 
 -- ---- combinations given by cells
 
-pub weight-made : (k : FieldValue) (φ : List ℕ → ℕ) (ws : List (List ℕ)) (number : ℕ → ℕ) (bound : ℕ) → ((i : ℕ) → i < bound → number i ≡ φ (word_at ws i)) →
-    (cells : List Cell) → AllCellsBelow bound cells → combined_numbers k number cells ≡ weight k φ (made ws cells)
-unfolding combined_numbers weight
-weight-made k φ ws number bound same [] below = refl
-weight-made k φ ws number bound same (c ∷ cells) below =
-    ap (λ n. plus k (times k c.coefficient n) (combined_numbers k number cells)) (same c.column below.0)
-    ∙ ap (plus k (times k c.coefficient (φ (word_at ws c.column)))) (weight-made k φ ws number bound same cells below.1)
-
-pub made_among : (ws : List (List ℕ)) (cells : List Cell) → AllCellsBelow (length ws) cells → AllAmong (made ws cells) ws
+pub made_among : (ws : List (List ℕ)) (cells : List Cell) → AllBelow (length ws) cells → AllAmong (made ws cells) ws
 unfolding AllAmong
 made_among ws [] below = tt
 made_among ws (c ∷ cells) below = (word_at_is_in ws c.column below.0, made_among ws cells below.1)
 
-pub below_more : (i n : ℕ) → i < n → (cells : List Cell) → AllCellsBelow i cells → AllCellsBelow n cells
+pub below_more : (i n : ℕ) → i < n → (cells : List Cell) → AllBelow i cells → AllBelow n cells
 below_more i n less [] below = tt
 below_more i n less (c ∷ cells) below = (omega (arith, below.0), below_more i n less cells below.1)
 
@@ -96,17 +89,24 @@ made_nonzero ws [] h = tt
 made_nonzero ws (c ∷ cells) h = (h.0, made_nonzero ws cells h.1)
 
 -- rising positions in a rising list make a combination whose words rise
-pub made_rises : (ws : List (List ℕ)) → IsRising ws → (cells : List Cell) → AllCellsBelow (length ws) cells → AreRising (columns_of cells) → IsRising (words_of (made ws cells))
+pub made_rises : (ws : List (List ℕ)) → IsRising ws → (cells : List Cell) → AllBelow (length ws) cells → AreColumnsRising (columns_of cells) → IsRising (words_of (made ws cells))
 made_rises ws r [] below up = tt
 made_rises ws r (c ∷ cells) below up = (first cells below.1 up.0, made_rises ws r cells below.1 up.1)
   where
-    first : (ds : List Cell) → AllCellsBelow (length ws) ds → IsColumnBelow c.column (columns_of ds) → IsBelowFirst (word_at ws c.column) (words_of (made ws ds))
+    first : (ds : List Cell) → AllBelow (length ws) ds → IsColumnBelow c.column (columns_of ds) → IsBelowFirst (word_at ws c.column) (words_of (made ws ds))
     first [] b h = tt
     first (d ∷ ds) b h = words_at_rise ws c.column d.column r h b.0
 
+-- a row makes a combination in order
+pub made_is_ordered : (ws : List (List ℕ)) → IsRising ws → (cells : List Cell) → IsRow cells → AllBelow (length ws) cells → IsOrdered (made ws cells)
+made_is_ordered ws rising cells shape below = record {
+  rising = made_rises ws rising cells below shape.rising;
+  nonzero = made_nonzero ws cells shape.nonzero;
+}
+
 -- a combination of entries before the one at position i is made of cells with positions below i
 cells_of : (k : FieldValue) (ws : List (List ℕ)) → IsRising ws → (i : ℕ) → i < length ws → (f : Combination) → AllElements k f → AllByRecursion (λ t. IsIn t.word ws × (word_cmp t.word (word_at ws i) ≡ Less)) f →
-    (cells : List Cell) × AllCellsBelow i cells × AllCellsElements k cells × (made ws cells ≡ f)
+    (cells : List Cell) × AllBelow i cells × AllCellsElements k cells × (made ws cells ≡ f)
 cells_of k ws r i within [] e h = ([], tt, tt, refl)
 cells_of k ws r i within (t ∷ f) e h =
     let (j, less, same) = position_of ws t.word h.0.0 in
@@ -120,7 +120,7 @@ cells_of k ws r i within (t ∷ f) e h =
 -- ---- least words by rows
 
 -- the words of a combination made of positions below i are words before the one at position i
-made_before : (vanishes : Vanishing) (braid : BraidValue) (m : ℕ) (ws : List (List ℕ)) → IsSpanning vanishes braid m ws → (i : ℕ) → i < length ws → (cells : List Cell) → AllCellsBelow i cells →
+made_before : (vanishes : Vanishing) (braid : BraidValue) (m : ℕ) (ws : List (List ℕ)) → IsSpanning vanishes braid m ws → (i : ℕ) → i < length ws → (cells : List Cell) → AllBelow i cells →
     AllAmong (made ws cells) (words_before braid.letters (word_at ws i))
 unfolding AllAmong
 made_before vanishes braid m ws s i within [] below = tt
@@ -133,7 +133,7 @@ made_before vanishes braid m ws s i within (c ∷ cells) below =
 
 -- a word whose row is a combination of the rows before it isn't least
 pub dependent_is_not_least : (vanishes : Vanishing) (braid : BraidValue) → IsField braid.field → (m : ℕ) → IsLinearTest braid.field (vanishes braid m) → (ws : List (List ℕ)) → IsSpanning vanishes braid m ws →
-    (φ : ℕ → List ℕ → ℕ) → AreFunctionals braid.field (vanishes braid m) ws φ → (i : ℕ) → i < length ws → (cells : List Cell) → AllCellsBelow i cells →
+    (φ : ℕ → List ℕ → ℕ) → AreFunctionals braid.field (vanishes braid m) ws φ → (i : ℕ) → i < length ws → (cells : List Cell) → AllBelow i cells →
     ((c : ℕ) → φ c (word_at ws i) ≡ weight braid.field (φ c) (made ws cells)) → is_least vanishes braid (word_at ws i) ≡ false
 dependent_is_not_least vanishes braid is m l ws s φ functionals i within cells below same =
     let here : IsIn (word_at ws i) ws = word_at_is_in ws i within in
@@ -143,7 +143,7 @@ dependent_is_not_least vanishes braid is m l ws s φ functionals i within cells 
 -- and the row of a word that isn't least is such a combination
 pub not_least_is_dependent : (vanishes : Vanishing) (braid : BraidValue) → IsField braid.field → (m : ℕ) → IsLinearTest braid.field (vanishes braid m) → (ws : List (List ℕ)) → IsSpanning vanishes braid m ws →
     (φ : ℕ → List ℕ → ℕ) → AreFunctionals braid.field (vanishes braid m) ws φ → (i : ℕ) → i < length ws → is_least vanishes braid (word_at ws i) ≡ false →
-    (cells : List Cell) × AllCellsBelow i cells × AllCellsElements braid.field cells × ((c : ℕ) → φ c (word_at ws i) ≡ weight braid.field (φ c) (made ws cells))
+    (cells : List Cell) × AllBelow i cells × AllCellsElements braid.field cells × ((c : ℕ) → φ c (word_at ws i) ≡ weight braid.field (φ c) (made ws cells))
 not_least_is_dependent vanishes braid is m l ws s φ functionals i within least =
     let k : FieldValue = braid.field in
     let w : List ℕ = word_at ws i in
@@ -161,7 +161,7 @@ not_least_is_dependent vanishes braid is m l ws s φ functionals i within least 
 -- so a word whose row is no combination of the rows before it is least
 pub independent_is_least : (vanishes : Vanishing) (braid : BraidValue) → IsField braid.field → (m : ℕ) → IsLinearTest braid.field (vanishes braid m) → (ws : List (List ℕ)) → IsSpanning vanishes braid m ws →
     (φ : ℕ → List ℕ → ℕ) → AreFunctionals braid.field (vanishes braid m) ws φ → (i : ℕ) → i < length ws →
-    ((cells : List Cell) → AllCellsBelow i cells → AllCellsElements braid.field cells → ((c : ℕ) → φ c (word_at ws i) ≡ weight braid.field (φ c) (made ws cells)) → ⊥) →
+    ((cells : List Cell) → AllBelow i cells → AllCellsElements braid.field cells → ((c : ℕ) → φ c (word_at ws i) ≡ weight braid.field (φ c) (made ws cells)) → ⊥) →
     is_least vanishes braid (word_at ws i) ≡ true
 independent_is_least vanishes braid is m l ws s φ functionals i within none = at (is_least vanishes braid (word_at ws i)) refl
   where
@@ -177,7 +177,7 @@ independent_is_least vanishes braid is m l ws s φ functionals i within none = a
 abbrev pub AllCellsLeast : Vanishing → BraidValue → List (List ℕ) → List Cell → Type 0
 AllCellsLeast vanishes braid ws cells = AllByRecursion (λ c. is_least vanishes braid (word_at ws c.column) ≡ true) cells
 
-made_of_least : (vanishes : Vanishing) (braid : BraidValue) (m : ℕ) (ws : List (List ℕ)) → IsSpanning vanishes braid m ws → (cells : List Cell) → AllCellsBelow (length ws) cells → AllCellsLeast vanishes braid ws cells →
+made_of_least : (vanishes : Vanishing) (braid : BraidValue) (m : ℕ) (ws : List (List ℕ)) → IsSpanning vanishes braid m ws → (cells : List Cell) → AllBelow (length ws) cells → AllCellsLeast vanishes braid ws cells →
     AllAmong (made ws cells) (basis vanishes braid m)
 unfolding AllAmong
 made_of_least vanishes braid m ws s [] below least = tt
@@ -187,53 +187,13 @@ made_of_least vanishes braid m ws s (c ∷ cells) below least =
 
 -- where a word's row is a combination of least words' rows before it, that combination of the words is the word's normal form
 pub form_by_rows : (vanishes : Vanishing) (braid : BraidValue) → IsField braid.field → (m : ℕ) → IsLinearTest braid.field (vanishes braid m) → (ws : List (List ℕ)) → IsSpanning vanishes braid m ws →
-    (φ : ℕ → List ℕ → ℕ) → AreFunctionals braid.field (vanishes braid m) ws φ → (i : ℕ) → i < length ws → (cells : List Cell) → AllCellsBelow i cells → AllCellsElements braid.field cells → AllCellsNonzero cells →
-    AreRising (columns_of cells) → AllCellsLeast vanishes braid ws cells → ((c : ℕ) → φ c (word_at ws i) ≡ weight braid.field (φ c) (made ws cells)) → normal_form vanishes braid m (single (word_at ws i)) ≡ made ws cells
-form_by_rows vanishes braid is m l ws s φ functionals i within cells below elements nonzero up least same =
-    let all_below : AllCellsBelow (length ws) cells = below_more i (length ws) within cells below in
+    (φ : ℕ → List ℕ → ℕ) → AreFunctionals braid.field (vanishes braid m) ws φ → (i : ℕ) → i < length ws → (cells : List Cell) → AllBelow i cells → AllCellsElements braid.field cells → IsRow cells →
+    AllCellsLeast vanishes braid ws cells → ((c : ℕ) → φ c (word_at ws i) ≡ weight braid.field (φ c) (made ws cells)) → normal_form vanishes braid m (single (word_at ws i)) ≡ made ws cells
+form_by_rows vanishes braid is m l ws s φ functionals i within cells below elements shape least same =
+    let all_below : AllBelow (length ws) cells = below_more i (length ws) within cells below in
     form_is vanishes braid is m l (single (word_at ws i)) (made ws cells) (record {
       least = made_of_least vanishes braid m ws s cells all_below least;
-      ordered = record { rising = made_rises ws s.rising cells all_below up; nonzero = made_nonzero ws cells nonzero };
+      ordered = made_is_ordered ws s.rising cells shape all_below;
       elements = made_elements braid.field ws cells elements;
       congruent = congruent_by_rows braid.field is (vanishes braid m) ws φ functionals (word_at ws i) (made ws cells) (word_at_is_in ws i within) (made_among ws cells all_below) same;
     })
-
--- ---- the same for rows that are given by numbers
-
--- the number of each column and each position is that of the word at the position
-abbrev pub AreNumbersOf : List (List ℕ) → (ℕ → List ℕ → ℕ) → (ℕ → ℕ → ℕ) → Type 0
-AreNumbersOf ws φ number = (c i : ℕ) → i < length ws → number c i ≡ φ c (word_at ws i)
-
--- in each column the number of position i is this combination of the numbers before it
-abbrev pub IsCombinedAt : FieldValue → (ℕ → ℕ → ℕ) → ℕ → List Cell → Type 0
-IsCombinedAt k number i cells = (c : ℕ) → number c i ≡ combined_numbers k (number c) cells
-
-rows_from_numbers : (k : FieldValue) (ws : List (List ℕ)) (φ : ℕ → List ℕ → ℕ) (number : ℕ → ℕ → ℕ) → AreNumbersOf ws φ number → (i : ℕ) → i < length ws → (cells : List Cell) → AllCellsBelow i cells →
-    IsCombinedAt k number i cells → (c : ℕ) → φ c (word_at ws i) ≡ weight k (φ c) (made ws cells)
-rows_from_numbers k ws φ number numbers i within cells below same c =
-    sym (numbers c i within) ∙ same c ∙ weight-made k (φ c) ws (number c) (length ws) (numbers c) cells (below_more i (length ws) within cells below)
-
-numbers_from_rows : (k : FieldValue) (ws : List (List ℕ)) (φ : ℕ → List ℕ → ℕ) (number : ℕ → ℕ → ℕ) → AreNumbersOf ws φ number → (i : ℕ) → i < length ws → (cells : List Cell) → AllCellsBelow i cells →
-    ((c : ℕ) → φ c (word_at ws i) ≡ weight k (φ c) (made ws cells)) → IsCombinedAt k number i cells
-numbers_from_rows k ws φ number numbers i within cells below same c =
-    numbers c i within ∙ same c ∙ sym (weight-made k (φ c) ws (number c) (length ws) (numbers c) cells (below_more i (length ws) within cells below))
-
-pub combined_row_is_not_least : (vanishes : Vanishing) (braid : BraidValue) → IsField braid.field → (m : ℕ) → IsLinearTest braid.field (vanishes braid m) → (ws : List (List ℕ)) → IsSpanning vanishes braid m ws →
-    (φ : ℕ → List ℕ → ℕ) → AreFunctionals braid.field (vanishes braid m) ws φ → (number : ℕ → ℕ → ℕ) → AreNumbersOf ws φ number → (i : ℕ) → i < length ws → (cells : List Cell) → AllCellsBelow i cells →
-    IsCombinedAt braid.field number i cells → is_least vanishes braid (word_at ws i) ≡ false
-combined_row_is_not_least vanishes braid is m l ws s φ functionals number numbers i within cells below same =
-    dependent_is_not_least vanishes braid is m l ws s φ functionals i within cells below (rows_from_numbers braid.field ws φ number numbers i within cells below same)
-
-pub uncombined_row_is_least : (vanishes : Vanishing) (braid : BraidValue) → IsField braid.field → (m : ℕ) → IsLinearTest braid.field (vanishes braid m) → (ws : List (List ℕ)) → IsSpanning vanishes braid m ws →
-    (φ : ℕ → List ℕ → ℕ) → AreFunctionals braid.field (vanishes braid m) ws φ → (number : ℕ → ℕ → ℕ) → AreNumbersOf ws φ number → (i : ℕ) → i < length ws →
-    ((cells : List Cell) → AllCellsBelow i cells → AllCellsElements braid.field cells → IsCombinedAt braid.field number i cells → ⊥) → is_least vanishes braid (word_at ws i) ≡ true
-uncombined_row_is_least vanishes braid is m l ws s φ functionals number numbers i within none =
-    independent_is_least vanishes braid is m l ws s φ functionals i within
-    (λ cells below elements same. none cells below elements (numbers_from_rows braid.field ws φ number numbers i within cells below same))
-
-pub form_of_combined_row : (vanishes : Vanishing) (braid : BraidValue) → IsField braid.field → (m : ℕ) → IsLinearTest braid.field (vanishes braid m) → (ws : List (List ℕ)) → IsSpanning vanishes braid m ws →
-    (φ : ℕ → List ℕ → ℕ) → AreFunctionals braid.field (vanishes braid m) ws φ → (number : ℕ → ℕ → ℕ) → AreNumbersOf ws φ number → (i : ℕ) → i < length ws → (cells : List Cell) → AllCellsBelow i cells →
-    AllCellsElements braid.field cells → AllCellsNonzero cells → AreRising (columns_of cells) → AllCellsLeast vanishes braid ws cells → IsCombinedAt braid.field number i cells →
-    normal_form vanishes braid m (single (word_at ws i)) ≡ made ws cells
-form_of_combined_row vanishes braid is m l ws s φ functionals number numbers i within cells below elements nonzero up least same =
-    form_by_rows vanishes braid is m l ws s φ functionals i within cells below elements nonzero up least (rows_from_numbers braid.field ws φ number numbers i within cells below same)

@@ -1,5 +1,5 @@
 -- What the places of rows say of the words of a spanning list: which are least, and the normal forms of the others.
-use Rattle.std.proofs.Common.{◌≡◌, ℕ, suc, ◌<◌, true, false, not, cond, List, [], ◌∷◌, length, map, refl, sym, ◌∙◌, ap, ap₂, arith}
+use Rattle.std.proofs.Common.{◌≡◌, ℕ, suc, ◌<◌, true, false, not, cond, List, [], ◌∷◌, length, map, refl, sym, ◌∙◌, ap, ap₂, arith, subst}
 use Rattle.std.specs.List.{filter, AllByRecursion}
 use Rattle.nichols_field.specs.Field.{FieldValue, IsField, plus, times}
 use Rattle.nichols_tensor.specs.Combination.{Combination, single}
@@ -7,21 +7,20 @@ use Rattle.nichols_tensor.specs.Positions.{word_at}
 use Rattle.nichols_tensor.proofs.Values.{weight}
 use Rattle.nichols_braid.specs.Braid.{BraidValue}
 use Rattle.nichols_braid.specs.Kernel.{Vanishing}
-use Rattle.nichols_braid.specs.Least.{is_least, normal_form}
+use Rattle.nichols_braid.specs.Least.{is_least, normal_form, basis, candidates, relations}
 use Rattle.nichols_tensor.specs.Relation.{PlainRelation}
 use Rattle.nichols_braid.specs.LinearTest.{IsLinearTest}
-use Rattle.nichols_braid.specs.Rows.{made, combined_numbers}
-use Rattle.nichols_braid.proofs.Candidates.{least_of, relation_at, relations_of}
-use Rattle.nichols_braid.proofs.Spanning.{IsSpanning}
-use Rattle.nichols_braid.proofs.Rows.{AreFunctionals, AllCellsLeast, weight-made, below_more, independent_is_least, dependent_is_not_least, form_by_rows}
+use Rattle.nichols_braid.proofs.Candidates.{least_of, relation_at, relations_of, relations_are}
+use Rattle.nichols_braid.proofs.Spanning.{IsSpanning, basis_among}
 use Rattle.nichols_echelon.specs.Cells.{Cell, entry, AllBelow}
 use Rattle.nichols_echelon.specs.Combination.{row_at, combined, IsDependent}
 use Rattle.nichols_echelon.specs.Split.{place_at, AllIndependent, IsPlace, IsSplit}
 use Rattle.nichols_echelon.specs.declared.rows.Place.{Place}
 use Rattle.nichols_echelon.specs.declared.rows.Place.TheVariants.{Independent, Depends}
 use Rattle.nichols_echelon.proofs.Uniqueness.{place_independent}
-use Rattle.nichols_block.specs.Reading.{independent_in, dependent_in, IsInside}
-use Rattle.nichols_block.proofs.ReadingOf.{rising_positions}
+use Rattle.nichols_rows.specs.Made.{made}
+use Rattle.nichols_rows.specs.Reading.{independent_in, dependent_in, IsInside}
+use Rattle.nichols_rows.proofs.Rows.{AreFunctionals, AllCellsLeast, below_more, independent_is_least, dependent_is_not_least, form_by_rows}
 
 -- what a place says of a word: it is least, or it isn't and has this normal form
 abbrev pub IsSaid : Vanishing → BraidValue → ℕ → List (List ℕ) → List ℕ → Place → Type 0
@@ -34,14 +33,10 @@ IsSaid vanishes braid m all w (Depends cells) = (is_least vanishes braid w ≡ f
 abbrev pub HaveEntries : FieldValue → List (List Cell) → List (List ℕ) → (ℕ → List ℕ → ℕ) → Type 0
 HaveEntries k rows ws φ = (i column : ℕ) → i < length ws → entry k (row_at rows i) column ≡ φ column (word_at ws i)
 
-combined_as_numbers : (k : FieldValue) (rows : List (List Cell)) (cells : List Cell) (column : ℕ) → combined k rows cells column ≡ combined_numbers k (λ i. entry k (row_at rows i) column) cells
-unfolding combined combined_numbers
-combined_as_numbers k rows [] column = refl
-combined_as_numbers k rows (c ∷ cells) column = ap (plus k (times k c.coefficient (entry k (row_at rows c.column) column))) (combined_as_numbers k rows cells column)
-
 combined_as_weight : (k : FieldValue) (rows : List (List Cell)) (ws : List (List ℕ)) (φ : ℕ → List ℕ → ℕ) → HaveEntries k rows ws φ → (cells : List Cell) → AllBelow (length ws) cells → (column : ℕ) → combined k rows cells column ≡ weight k (φ column) (made ws cells)
-combined_as_weight k rows ws φ entries cells below column =
-    combined_as_numbers k rows cells column ∙ weight-made k (φ column) ws (λ i. entry k (row_at rows i) column) (length ws) (λ i less. entries i column less) cells below
+unfolding combined weight
+combined_as_weight k rows ws φ entries [] below column = refl
+combined_as_weight k rows ws φ entries (c ∷ cells) below column = ap₂ (λ n r. plus k (times k c.coefficient n) r) (entries c.column column below.0) (combined_as_weight k rows ws φ entries cells below.1 column)
 
 independent_says : (vanishes : Vanishing) (braid : BraidValue) → IsField braid.field → (m : ℕ) → IsLinearTest braid.field (vanishes braid m) → (ws : List (List ℕ)) → IsSpanning vanishes braid m ws →
     (φ : ℕ → List ℕ → ℕ) → AreFunctionals braid.field (vanishes braid m) ws φ → (rows : List (List Cell)) → HaveEntries braid.field rows ws φ → (i : ℕ) → i < length ws →
@@ -64,7 +59,7 @@ place_says : (vanishes : Vanishing) (braid : BraidValue) → IsField braid.field
 place_says vanishes braid is m l ws s φ functionals rows entries places each i within Independent h = independent_says vanishes braid is m l ws s φ functionals rows entries i within h
 place_says vanishes braid is m l ws s φ functionals rows entries places each i within (Depends cells) h = (
   dependent_is_not_least vanishes braid is m l ws s φ functionals i within cells h.combination.earlier same,
-  form_by_rows vanishes braid is m l ws s φ functionals i within cells h.combination.earlier h.combination.elements h.shape.nonzero (rising_positions cells h.shape.rising) (all_least cells h.combination.earlier h.independent) same,
+  form_by_rows vanishes braid is m l ws s φ functionals i within cells h.combination.earlier h.combination.elements h.shape (all_least cells h.combination.earlier h.independent) same,
 )
   where
     same : (column : ℕ) → φ column (word_at ws i) ≡ weight braid.field (φ column) (made ws cells)
@@ -92,7 +87,7 @@ all_said R (w ∷ ws) [] e h = absurd (omega arith)
 all_said R (w ∷ ws) (p ∷ places) e h = (h 0 (omega arith), all_said R ws places (omega arith) (λ i less. h (suc i) (omega arith)))
 
 -- the places of a split say so of each word
-pub split_says : (vanishes : Vanishing) (braid : BraidValue) → IsField braid.field → (m : ℕ) → IsLinearTest braid.field (vanishes braid m) → (ws : List (List ℕ)) → IsSpanning vanishes braid m ws →
+split_says : (vanishes : Vanishing) (braid : BraidValue) → IsField braid.field → (m : ℕ) → IsLinearTest braid.field (vanishes braid m) → (ws : List (List ℕ)) → IsSpanning vanishes braid m ws →
     (φ : ℕ → List ℕ → ℕ) → AreFunctionals braid.field (vanishes braid m) ws φ → (rows : List (List Cell)) → length rows ≡ length ws → HaveEntries braid.field rows ws φ → (places : List Place) → IsSplit braid.field rows places →
     AllSaid (IsSaid vanishes braid m ws) ws places
 split_says vanishes braid is m l ws s φ functionals rows size entries places split =
@@ -104,7 +99,7 @@ split_says vanishes braid is m l ws s φ functionals rows size entries places sp
 
 -- ---- what is read off
 
-pub least_are_independent : (vanishes : Vanishing) (braid : BraidValue) (m : ℕ) (all ws : List (List ℕ)) (places : List Place) → AllSaid (IsSaid vanishes braid m all) ws places → independent_in ws places ≡ least_of vanishes braid ws
+least_are_independent : (vanishes : Vanishing) (braid : BraidValue) (m : ℕ) (all ws : List (List ℕ)) (places : List Place) → AllSaid (IsSaid vanishes braid m all) ws places → independent_in ws places ≡ least_of vanishes braid ws
 least_are_independent vanishes braid m all [] places h = refl
 least_are_independent vanishes braid m all (w ∷ ws) [] h = absurd h
 least_are_independent vanishes braid m all (w ∷ ws) (Independent ∷ places) h =
@@ -118,7 +113,7 @@ independent_in-map f (w ∷ ws) [] = refl
 independent_in-map f (w ∷ ws) (Independent ∷ places) = ap (λ xs. f w ∷ xs) (independent_in-map f ws places)
 independent_in-map f (w ∷ ws) (Depends cells ∷ places) = independent_in-map f ws places
 
-pub relations_are_dependent : (vanishes : Vanishing) (braid : BraidValue) (m : ℕ) (all ws : List (List ℕ)) (places : List Place) → AllSaid (IsSaid vanishes braid m all) ws places → dependent_in all ws places ≡ relations_of vanishes braid m ws
+relations_are_dependent : (vanishes : Vanishing) (braid : BraidValue) (m : ℕ) (all ws : List (List ℕ)) (places : List Place) → AllSaid (IsSaid vanishes braid m all) ws places → dependent_in all ws places ≡ relations_of vanishes braid m ws
 relations_are_dependent vanishes braid m all [] places h = refl
 relations_are_dependent vanishes braid m all (w ∷ ws) [] h = absurd h
 relations_are_dependent vanishes braid m all (w ∷ ws) (Independent ∷ places) h =
@@ -133,7 +128,7 @@ relations_are_dependent vanishes braid m all (w ∷ ws) (Depends cells ∷ place
     others = filter (λ v. not (is_least vanishes braid v)) ws
 
 -- the places of a split name earlier positions alone
-pub split_inside : (k : FieldValue) (rows : List (List Cell)) (places : List Place) → IsSplit k rows places → AllByRecursion (IsInside (length rows)) places
+split_inside : (k : FieldValue) (rows : List (List Cell)) (places : List Place) → IsSplit k rows places → AllByRecursion (IsInside (length rows)) places
 split_inside k rows places split = all_inside places (λ i less. inside i (omega (arith, split.count)))
   where
     of_place : (i : ℕ) → i < length rows → (p : Place) → IsPlace k rows places i p → IsInside (length rows) p
@@ -146,3 +141,23 @@ split_inside k rows places split = all_inside places (λ i less. inside i (omega
     all_inside : (ps : List Place) → ((i : ℕ) → i < length ps → IsInside (length rows) (place_at ps i)) → AllByRecursion (IsInside (length rows)) ps
     all_inside [] h = tt
     all_inside (p ∷ ps) h = (h 0 (omega arith), all_inside ps (λ i less. h (suc i) (omega arith)))
+
+-- ---- of all candidates
+
+-- the words with independent places are the basis
+pub basis_is_read : (vanishes : Vanishing) (braid : BraidValue) → IsField braid.field → (m : ℕ) → IsLinearTest braid.field (vanishes braid m) → (ws : List (List ℕ)) → IsSpanning vanishes braid m ws →
+    (φ : ℕ → List ℕ → ℕ) → AreFunctionals braid.field (vanishes braid m) ws φ → (rows : List (List Cell)) → length rows ≡ length ws → HaveEntries braid.field rows ws φ → (places : List Place) → IsSplit braid.field rows places →
+    independent_in ws places ≡ basis vanishes braid m
+basis_is_read vanishes braid is m l ws s φ functionals rows size entries places split =
+    least_are_independent vanishes braid m ws ws places (split_says vanishes braid is m l ws s φ functionals rows size entries places split) ∙ sym (basis_among vanishes braid is m l ws s)
+
+-- and the others are the relations
+pub relations_are_read : (vanishes : Vanishing) (braid : BraidValue) → IsField braid.field → (m : ℕ) → IsLinearTest braid.field (vanishes braid m) → (ws : List (List ℕ)) → ws ≡ candidates vanishes braid m → IsSpanning vanishes braid m ws →
+    (φ : ℕ → List ℕ → ℕ) → AreFunctionals braid.field (vanishes braid m) ws φ → (rows : List (List Cell)) → length rows ≡ length ws → HaveEntries braid.field rows ws φ → (places : List Place) → IsSplit braid.field rows places →
+    dependent_in ws ws places ≡ relations vanishes braid m
+relations_are_read vanishes braid is m l ws e s φ functionals rows size entries places split =
+    relations_are_dependent vanishes braid m ws ws places (split_says vanishes braid is m l ws s φ functionals rows size entries places split) ∙ ap (relations_of vanishes braid m) e ∙ sym (relations_are vanishes braid m)
+
+-- the places name positions of words alone
+pub places_inside : (k : FieldValue) (rows : List (List Cell)) (words : List (List ℕ)) (places : List Place) → length rows ≡ length words → IsSplit k rows places → AllByRecursion (IsInside (length words)) places
+places_inside k rows words places e split = subst (λ n. AllByRecursion (IsInside n) places) e (split_inside k rows places split)

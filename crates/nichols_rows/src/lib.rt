@@ -1,0 +1,6 @@
+//! Rows of words: what an elimination of the rows says of the words that have them.
+#![tactic(auto)]
+
+mod reading;
+
+pub use reading::{least_words, relations};

@@ -1,0 +1,79 @@
+//! What the places of the rows of words say: which words are least, and the combinations that the others are.
+
+ghost use Rattle.std.specs.Prelude.{◌≡◌, ◌++◌, ◌∷◌, IfOk, OnOk, [], length};
+ghost use Rattle.std.specs.List.{AllByRecursion};
+ghost use Rattle.nichols_tensor.specs.WordOrder.{IsRising};
+ghost use Rattle.nichols_rows.specs.Made.{made};
+ghost use Rattle.nichols_echelon.specs.Cells.{AllBelow, IsRow};
+ghost use Rattle.nichols_rows.specs.Reading.{IsInside, dependent_in, independent_in};
+
+use nichols_echelon::{Cell, Place};
+use nichols_words::{Comb, Relation, Term, Word};
+use std::alloc::{AllocError, Global};
+
+/// The combination of the words at the positions of a row.
+fn form_of(alloc: Global, words: &[Word], cells: &[Cell]) -> Result<Comb, AllocError>
+    requires rising { IsRising words.now }
+    requires shape { IsRow cells.now }
+    requires inside { AllBelow (length words.now) cells.now }
+    ensures { IfOk result (λ r. r ≡ made words.now cells.now) }
+{
+    let mut terms = Vec::new(alloc);
+    for cell in cells {
+        let word = words[cell.column as usize];
+        let coefficient = cell.coefficient;
+        terms.push(Term { word, coefficient })?;
+    }
+    Ok(Comb::from_terms(terms))
+}
+
+/// Puts a word whose row depends on rows before it, with its form, behind other relations.
+fn push_relation(
+    alloc: Global,
+    words: &[Word],
+    candidate: Word,
+    place: &Place,
+    out: &mut Vec<Relation>,
+) -> Result<(), AllocError>
+    requires rising { IsRising words.now }
+    requires inside { IsInside (length words.now) place.now }
+    ensures { OnOk result (out.new.items ≡ out.old.items ++ dependent_in words.now (candidate ∷ []) (place.now ∷ [])) }
+{
+    if let Place::Depends(row) = place {
+        let form = form_of(alloc, words, row.cells())?;
+        out.push(Relation { candidate, form })?;
+    }
+    Ok(())
+}
+
+/// The words whose rows depend on rows before them, with their forms.
+pub fn relations(
+    alloc: Global,
+    words: &[Word],
+    places: &[Place],
+) -> Result<Vec<Relation>, AllocError>
+    requires count { length places.now ≡ length words.now }
+    requires rising { IsRising words.now }
+    requires inside { AllByRecursion (IsInside (length words.now)) places.now }
+    ensures { IfOk result (λ r. r.items ≡ dependent_in words.now words.now places.now) }
+{
+    let mut out = Vec::new(alloc);
+    for (k, place) in places.iter().enumerate() {
+        push_relation(alloc, words, words[k], place, &mut out)?;
+    }
+    Ok(out)
+}
+
+/// The words whose rows are independent.
+pub fn least_words(alloc: Global, words: &[Word], places: &[Place]) -> Result<Vec<Word>, AllocError>
+    requires { length places.now ≡ length words.now }
+    ensures { IfOk result (λ r. r.items ≡ independent_in words.now places.now) }
+{
+    let mut out = Vec::new(alloc);
+    for (k, place) in places.iter().enumerate() {
+        if let Place::Independent = place {
+            out.push(words[k])?;
+        }
+    }
+    Ok(out)
+}
