@@ -15,6 +15,7 @@ use Rattle.nichols_tensor.specs.Words.{up_to, IsLetterOf}
 use Rattle.nichols_tensor.proofs.Entries.{each_of, from_map, from_flat_map}
 use Rattle.nichols_tensor.proofs.Letters.{from_up_to}
 use Rattle.nichols_tensor.proofs.Tests.{map_same}
+use Rattle.nichols_tensor.proofs.Building.{kept_by_test}
 use Rattle.nichols_braid.specs.Braid.{BraidValue, entry, act, scalar, IsBraid, IsRack}
 use Rattle.nichols_braid.specs.Faults.{first_answer, first_triple, letter_of, row_letters, rows_letters, put_first, put_before, rack_table, rack_fault_at, rack_fault, rows_residues, GivenScalars, constant, table, cocycle_table, braid_of, cocycle_holds_at, is_cocycle}
 use Rattle.nichols_braid.specs.TableLaws.{HasPlaces, IsAsGiven, BraidsAreAccepted}
@@ -183,13 +184,6 @@ is_distributive braid is = no_triple braid.letters (rack_fault_at braid.letters 
 
 -- ---- a cocycle passes its test
 
-nonzero_test : (q : ℕ) → q ≢ 0 → not (nat_eq q 0) ≡ true
-nonzero_test q h = at (nat_eq q 0) refl
-  where
-    at : (b : Bool) → nat_eq q 0 ≡ b → not b ≡ true
-    at true e = absurd (h ((Decides-eqb q 0).0 e))
-    at false e = refl
-
 flat_nonzero : (n : ℕ) (at : ℕ → ℕ → ℕ) → ((i j : ℕ) → IsLetterOf n i → IsLetterOf n j → at i j ≢ 0) → (q : ℕ) → IsIn q (flat n at) → q ≢ 0
 flat_nonzero n at h q in_flat =
     let (i, li, in_row) = from_flat_map (λ i. map (at i) (up_to n)) q (up_to n) in_flat in
@@ -201,7 +195,7 @@ unfolding is_cocycle
 passes braid is =
     let n : ℕ = braid.letters in
     both_true
-    (each_of (λ q. not (nat_eq q 0)) braid.cocycle (λ q i. nonzero_test q (flat_nonzero n (scalar braid) is.cocycle.nonzero q (subst (λ xs. IsIn q xs) (sym (is_flat n braid.cocycle is.cocycle_size)) i))))
+    (each_of (λ q. not (nat_eq q 0)) braid.cocycle (λ q i. kept_by_test q (flat_nonzero n (scalar braid) is.cocycle.nonzero q (subst (λ xs. IsIn q xs) (sym (is_flat n braid.cocycle is.cocycle_size)) i))))
     (each_of (λ i. list_all (λ j. list_all (cocycle_holds_at braid i j) (up_to n)) (up_to n)) (up_to n) (λ i li.
     each_of (λ j. list_all (cocycle_holds_at braid i j) (up_to n)) (up_to n) (λ j lj.
     each_of (cocycle_holds_at braid i j) (up_to n) (λ k lk.
