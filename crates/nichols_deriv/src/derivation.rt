@@ -31,6 +31,6 @@ pub fn derive(alloc: Global, braid: &Braid, a: u8, comb: &Comb) -> Result<Comb, 
     for term in comb.terms() {
         put_derivative(braid, a, term, &mut terms)?;
     }
-    let derivative = Comb::sum_of(alloc, field, terms.as_slice())?;
+    let derivative = Comb::sum_of(alloc, field, terms.as_mut_slice())?;
     Ok(derivative)
 }

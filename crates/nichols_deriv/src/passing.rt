@@ -14,7 +14,7 @@ use std::alloc::AllocError;
 
 /// Puts the derivative of a term behind the terms that are there, one term for each place at which `a` stands.
 #[tactic(auto, using(nichols_tensor::proofs::Over::letter_over))]
-pub fn put_derivative(
+pub(crate) fn put_derivative(
     braid: &Braid,
     a: u8,
     term: &Term,

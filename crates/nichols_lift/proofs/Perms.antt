@@ -1,12 +1,13 @@
 -- Permutations of few places in an array, and the test of being one.
 use Rattle.std.proofs.Common.{◌≡◌, ℕ, zero, suc, ◌+◌, ◌-◌, ◌<◌, ◌≤◌, true, false, cond, List, [], ◌∷◌, ◌++◌, length, take, drop, get_or, set, refl, sym, ◌∙◌, ap, subst, arith, nat_eq, nat_lt, ◌⊎◌, inl, inr, Option, None, Some}
 use Rattle.std.specs.Option.{option_map}
-use Rattle.std.specs.List.{IsDistinct, list_any}
+use Rattle.std.specs.List.{IsDistinct, list_any, swap}
 use Rattle.std.specs.List.Sorted.{IsPermutation}
 use Rattle.std.proofs.lemmas.List.{length-append, length-drop}
 use Rattle.std.proofs.Math.Seq.{drop-cons}
 use Rattle.std.proofs.lemmas.Bool.Decides.{nat_tests, Decides-eqb}
 use Rattle.std.proofs.lemmas.List.Sorted.{IsPermutation-refl, IsPermutation-cons, IsPermutation-sym, IsPermutation-trans, IsPermutation-middle, Contains-permutation}
+use Rattle.nichols_tensor.specs.Inline.{IsInline, length_kept}
 use Rattle.nichols_tensor.specs.Members.{IsIn}
 use Rattle.nichols_tensor.specs.Words.{up_to, IsLetterOf}
 use Rattle.nichols_tensor.proofs.Entries.{in_either, in_left, in_right, in_from_contains, contains_from_in, any_of, some_of}
@@ -18,7 +19,6 @@ use Rattle.nichols_braid.specs.Lift.{exchanged, IsDescentAt, first_descent}
 use Rattle.nichols_braid.proofs.Counts.{in_front_and_rest}
 use Rattle.nichols_braid.proofs.Rearranged.{up_to_distinct}
 use Rattle.nichols_lift.specs.Perm.{IsPerm, place_limit}
-use Rattle.nichols_lift.specs.InlinePerm.{IsInline, length_kept}
 use Rattle.nichols_lift.proofs.Step.{exchanged_is_permutation, exchanged_length}
 use Rattle.nichols_lift.proofs.Leading.{descent_within}
 
@@ -133,12 +133,16 @@ descents_end ends i some end h = ap (λ f. option_map (λ p. p + (i - 1)) f) (sy
 
 -- ---- an exchange in the array
 
-set_twice : (j : ℕ) (xs : List ℕ) → suc j < length xs → set (set xs j (get_or xs (suc j) 0)) (suc j) (get_or xs j 0) ≡ exchanged (suc j) xs
-set_twice zero [] h = absurd (omega arith)
-set_twice zero (a ∷ []) h = absurd (omega arith)
-set_twice zero (a ∷ b ∷ xs) h = refl
-set_twice (suc j) [] h = absurd (omega arith)
-set_twice (suc j) (a ∷ xs) h = ap (λ r. a ∷ r) (set_twice j xs (omega arith))
+set_twice : (j d : ℕ) (xs : List ℕ) → suc j < length xs → set (set xs j (get_or xs (suc j) d)) (suc j) (get_or xs j d) ≡ exchanged (suc j) xs
+set_twice zero d [] h = absurd (omega arith)
+set_twice zero d (a ∷ []) h = absurd (omega arith)
+set_twice zero d (a ∷ b ∷ xs) h = refl
+set_twice (suc j) d [] h = absurd (omega arith)
+set_twice (suc j) d (a ∷ xs) h = ap (λ r. a ∷ r) (set_twice j d xs (omega arith))
+
+swapped : (j : ℕ) (xs : List ℕ) → suc j < length xs → swap xs j (suc j) ≡ exchanged (suc j) xs
+swapped j [] h = absurd (omega arith)
+swapped j (a ∷ xs) h = set_twice j a (a ∷ xs) h
 
 exchanged_prefix : (j n : ℕ) (xs : List ℕ) → suc j < n → n ≤ length xs → take n (exchanged (suc j) xs) ≡ exchanged (suc j) (take n xs)
 exchanged_prefix j zero xs h l = absurd (omega arith)
@@ -159,14 +163,14 @@ exchanged_rest (suc j) (suc n) [] h = refl
 exchanged_rest (suc j) (suc n) (a ∷ xs) h = exchanged_rest j n xs (omega arith)
 
 -- the array after an exchange
-pub exchanged_array : (n i : ℕ) (xs ys : List ℕ) → IsInline n xs → IsDescentAt i (take n xs) → ys ≡ set (set xs (i - 1) (get_or xs i 0)) i (get_or xs (i - 1) 0) → (take n ys ≡ exchanged i (take n xs)) × IsInline n ys
+pub exchanged_array : (n i : ℕ) (xs ys : List ℕ) → IsInline place_limit IsPerm n xs → IsDescentAt i (take n xs) → ys ≡ swap xs (i - 1) i → (take n ys ≡ exchanged i (take n xs)) × IsInline place_limit IsPerm n ys
 exchanged_array n zero xs ys h d e = absurd d
 exchanged_array n (suc j) xs ys h d e =
     let back : suc j - 1 ≡ j = omega arith in
-    let size : length (take n xs) ≡ n = length_kept n xs h in
+    let size : length (take n xs) ≡ n = length_kept place_limit IsPerm n xs h in
     let within : suc j < n = let w : (1 ≤ suc j) × (suc j < length (take n xs)) = descent_within (suc j) (take n xs) d in omega (arith, w.1) in
     let room : n ≤ length xs = omega (arith, h.short, h.whole) in
-    let shape : ys ≡ exchanged (suc j) xs = e ∙ ap (λ i. set (set xs i (get_or xs (suc j) 0)) (suc j) (get_or xs i 0)) back ∙ set_twice j xs (omega arith) in
+    let shape : ys ≡ exchanged (suc j) xs = e ∙ ap (λ i. swap xs i (suc j)) back ∙ swapped j xs (omega arith) in
     let front : take n ys ≡ exchanged (suc j) (take n xs) = ap (take n) shape ∙ exchanged_prefix j n xs within room in
     let long : length (exchanged (suc j) (take n xs)) ≡ length (take n xs) = exchanged_length (suc j) (take n xs) in (
       front,
@@ -174,9 +178,9 @@ exchanged_array n (suc j) xs ys h d e =
         short = h.short;
         whole = ap length shape ∙ exchanged_length (suc j) xs ∙ h.whole;
         padded = ap (drop n) shape ∙ exchanged_rest j n xs within ∙ h.padded;
-        perm = subst IsPerm (sym front) (record {
-          short = subst (λ l. l ≤ place_limit) (sym long) h.perm.short;
-          rearrangement = subst (λ l. IsRearrangement l (exchanged (suc j) (take n xs))) (sym long) (IsPermutation-trans (up_to (length (take n xs))) (take n xs) (exchanged (suc j) (take n xs)) h.perm.rearrangement (exchanged_is_permutation (suc j) (take n xs) d));
+        holds = subst IsPerm (sym front) (record {
+          short = subst (λ l. l ≤ place_limit) (sym long) h.holds.short;
+          rearrangement = subst (λ l. IsRearrangement l (exchanged (suc j) (take n xs))) (sym long) (IsPermutation-trans (up_to (length (take n xs))) (take n xs) (exchanged (suc j) (take n xs)) h.holds.rearrangement (exchanged_is_permutation (suc j) (take n xs) d));
         });
       },
     )

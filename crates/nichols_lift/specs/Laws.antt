@@ -5,7 +5,7 @@ use Rattle.nichols_tensor.specs.Combination.{Combination, HasSameValues}
 use Rattle.nichols_tensor.specs.Words.{up_to, IsWordOver, IsOver, HasDegree}
 use Rattle.nichols_braid.specs.Braid.{BraidValue, IsBraid, IsLetter}
 use Rattle.nichols_braid.specs.Crossing.{crossed}
-use Rattle.nichols_braid.specs.Lift.{IsDescending, lift}
+use Rattle.nichols_braid.specs.Lift.{IsDescending, bubble, lift}
 use Rattle.nichols_braid.specs.Symmetrizer.{symmetrized}
 use Rattle.nichols_braid.specs.Derivation.{derived}
 use Rattle.nichols_braid.specs.Kernel.{Vanishing, IsInKernel, IsKilled}
@@ -14,6 +14,10 @@ use Rattle.nichols_braid.specs.RightProduct.{times_letter}
 use Rattle.nichols_braid.specs.Rearrangement.{IsRearrangement}
 use Rattle.nichols_lift.specs.ClosedForm.{closed_form}
 use Rattle.nichols_lift.specs.Reading.{IsReading, HasOneReading}
+
+-- the list that always takes the least place with a greater entry on its left is descending
+abbrev pub LeastPlacesDescend : Type 0
+LeastPlacesDescend = (ends : List ℕ) → IsDescending ends (bubble ends)
 
 -- the lift of a permutation, at a word of its length, is the closed form, and the crossings of any descending list lead to it
 abbrev pub ReducedListsAgree : Type 0

@@ -3,5 +3,4 @@ pub mod Laws
 pub mod Reading
 pub mod Lengths
 pub mod Perm
-pub mod InlinePerm
 pub mod PermFields

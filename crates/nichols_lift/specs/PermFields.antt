@@ -1,8 +1,8 @@
 -- The fields of a permutation, from its list of end places.
 use Rattle.std.specs.Prelude.{◌≡◌, ℕ, ◌-◌, List, ◌++◌, length, take, replicate}
+use Rattle.nichols_tensor.specs.Inline.{IsInline, length_kept, entries_kept}
 use Rattle.nichols_lift.specs.declared.perm.Perm.TheInside.{Inside}
-use Rattle.nichols_lift.specs.Perm.{place_limit}
-use Rattle.nichols_lift.specs.InlinePerm.{IsInline, length_kept, ends_kept}
+use Rattle.nichols_lift.specs.Perm.{IsPerm, place_limit}
 
 -- the fields that a list of end places has
 abbrev pub fields_of : List ℕ → Inside
@@ -14,6 +14,6 @@ fields n xs = record { len = n; ends = xs }
 same_fields : (n m : ℕ) (xs ys : List ℕ) → n ≡ m → xs ≡ ys → fields n xs ≡ fields m ys
 same_fields n m xs ys p q = cc
 
-pub fields_back : (p : Inside) → IsInline p.len p.ends → fields_of (take p.len p.ends) ≡ p
+pub fields_back : (p : Inside) → IsInline place_limit IsPerm p.len p.ends → fields_of (take p.len p.ends) ≡ p
 unfolding fields
-fields_back p h = same_fields _ p.len _ p.ends (length_kept p.len p.ends h) (ends_kept p.len p.ends h)
+fields_back p h = same_fields _ p.len _ p.ends (length_kept place_limit IsPerm p.len p.ends h) (entries_kept place_limit IsPerm p.len p.ends h)

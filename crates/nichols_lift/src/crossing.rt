@@ -9,6 +9,8 @@ use nichols_braid::Braid;
 use nichols_words::Word;
 
 /// The crossing at place i, from 1: the letters a, b there become `a ▷ b`, a. The answer is the scalar `q(a, b)`.
+///
+/// It is the braiding of Andruskiewitsch and Graña, "From racks to pointed Hopf algebras", at two neighbouring places.
 #[tactic(auto, using(nichols_tensor::proofs::Over::letter_over))]
 pub fn cross_at(braid: &Braid, word: &mut Word, i: usize) -> u32
     requires first { 1 ≤ i }

@@ -16,6 +16,9 @@ use nichols_deriv::derive;
 use nichols_words::{Comb, Term, Word};
 use std::alloc::{AllocError, Global};
 
+/// The most letters of a word whose image is asked for.
+const LETTERS_MOST: usize = 7;
+
 /// The image of a combination of words of at most 7 letters under the quantum symmetrizer: of each word that of its own degree.
 ///
 /// It is found by the factorisation of the symmetrizer through the skew derivations, and not by a lift for each permutation.
@@ -30,8 +33,7 @@ pub fn symmetrize(alloc: Global, braid: &Braid, comb: &Comb) -> Result<Comb, All
     ensures letters { IfOk result (IsOver braid.now.letters) }
     ensures degree { IfOk result (λ r. (m : ℕ) → HasDegree m comb.now → HasDegree m r) }
 {
-    let image = image_below(alloc, braid, comb, 7)?;
-    Ok(image)
+    image_below(alloc, braid, comb, LETTERS_MOST)
 }
 
 /// The image of a combination of words of at most `limit` letters: its constant term, and for each letter the image of the
@@ -67,7 +69,7 @@ fn image_below(alloc: Global, braid: &Braid, comb: &Comb, limit: usize) -> Resul
             put_behind(&part, letter, &mut terms)?;
         }
     }
-    let image = Comb::sum_of(alloc, field, terms.as_slice())?;
+    let image = Comb::sum_of(alloc, field, terms.as_mut_slice())?;
     Ok(image)
 }
 

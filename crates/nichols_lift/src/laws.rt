@@ -2,7 +2,13 @@
 //!
 //! They hold for every braid and every length (Heckenberger and Schneider, "Hopf Algebras and Root Systems").
 
-ghost use Rattle.nichols_lift.specs.Laws.{ReducedListsAgree, SymmetrizerFactors, KernelByDerivations, KernelIsRightIdeal, ReadingsAgree, PrefixesAreLeast, LeastWordsAreCandidates, EmptyDegreesStayEmpty};
+ghost use Rattle.nichols_lift.specs.Laws.{LeastPlacesDescend, ReducedListsAgree, SymmetrizerFactors, KernelByDerivations, KernelIsRightIdeal, ReadingsAgree, PrefixesAreLeast, LeastWordsAreCandidates, EmptyDegreesStayEmpty};
+
+/// The list of the lift is descending: taking the least place with a greater entry on its left, again and again, sorts the end places.
+#[tactic(auto, using(crate::proofs::Bubble::bubble_descends))]
+pub fn least_places_descend()
+    ensures { LeastPlacesDescend }
+{}
 
 /// Reduced lists agree: the crossings of every descending list of a permutation lead to the word and the scalar of its lift,
 /// and these are the closed form, in which each letter is acted on by the earlier ones that end to its right, the nearest first.

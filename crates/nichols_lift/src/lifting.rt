@@ -1,6 +1,7 @@
 //! Lifts of permutations.
 
 ghost use Rattle.std.specs.Prelude.{◌≡◌, length};
+ghost use Rattle.nichols_field.specs.Field.{IsElement};
 ghost use Rattle.nichols_tensor.specs.Words.{IsWordOver};
 ghost use Rattle.nichols_braid.specs.Lift.{IsDescending, lift};
 ghost use Rattle.nichols_lift.specs.ClosedForm.{closed_form};
@@ -18,6 +19,8 @@ pub fn lift(braid: &Braid, perm: &Perm, word: &Word) -> (Word, u32)
     requires letters { IsWordOver braid.now.letters word.now }
     ensures word { result.0 ≡ (lift braid.now perm.now word.now).word }
     ensures scalar { result.1 ≡ (lift braid.now perm.now word.now).coefficient }
+    ensures letters { IsWordOver braid.now.letters result.0 }
+    ensures element { IsElement braid.now.field result.1 }
     ensures closed { lift braid.now perm.now word.now ≡ closed_form braid.now perm.now word.now }
 {
     let field = braid.field();
@@ -32,13 +35,18 @@ pub fn lift(braid: &Braid, perm: &Perm, word: &Word) -> (Word, u32)
     (crossed, scalar)
 }
 
-/// The lift of a permutation, at a word of its length, along a list of places that is descending for it.
+/// The word and the scalar to which the crossings at these places, from 1, lead one after the other.
+///
+/// The list is descending for the permutation, so they are its lift (Andruskiewitsch and Graña, "From racks to pointed Hopf algebras";
+/// Heckenberger and Schneider, "Hopf Algebras and Root Systems").
 pub fn lift_by(braid: &Braid, perm: &Perm, list: &[u8], word: &Word) -> (Word, u32)
     requires length { length word.now ≡ length perm.now }
     requires letters { IsWordOver braid.now.letters word.now }
     requires list { IsDescending perm.now list.now }
     ensures word { result.0 ≡ (lift braid.now perm.now word.now).word }
     ensures scalar { result.1 ≡ (lift braid.now perm.now word.now).coefficient }
+    ensures letters { IsWordOver braid.now.letters result.0 }
+    ensures element { IsElement braid.now.field result.1 }
     ensures closed { lift braid.now perm.now word.now ≡ closed_form braid.now perm.now word.now }
 {
     let field = braid.field();

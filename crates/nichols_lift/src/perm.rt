@@ -7,22 +7,26 @@ ghost use Rattle.nichols_lift.specs.Perm.{IsPerm, place_limit};
 
 use std::marker::Model;
 
+/// The most places of a permutation.
+const PLACES_MOST: usize = 7;
+
 /// A permutation of at most 7 places, by its end places: entry j says where the letter at place j ends.
 #[derive(Clone, Copy)]
 pub struct Perm {
     len: usize,
-    ends: [u8; 7],
+    ends: [u8; PLACES_MOST],
 }
 
 impl Model for Perm {
     ghost use Rattle.std.specs.Prelude.{ℕ, List, take};
-    ghost use Rattle.nichols_lift.specs.InlinePerm.{IsInline};
+    ghost use Rattle.nichols_tensor.specs.Inline.{IsInline};
+    ghost use Rattle.nichols_lift.specs.Perm.{IsPerm, place_limit};
 
     ghost Value = { List ℕ };
 
     ghost view = { λ p. take p.len p.ends };
 
-    ghost invariant = { λ p. IsInline p.len p.ends };
+    ghost invariant = { λ p. IsInline place_limit IsPerm p.len p.ends };
 
     ghost use Rattle.nichols_lift.specs.PermFields.{fields_of, fields_back};
 
@@ -36,10 +40,10 @@ impl Perm {
     pub fn new(ends: &[u8]) -> Option<Perm>
         ensures { MatchOption result (IsPerm ends.now → ⊥) (λ p. (p ≡ ends.now) × IsPerm ends.now) }
     {
-        if ends.len() > 7 || !is_rearrangement(ends) {
+        if ends.len() > PLACES_MOST || !is_rearrangement(ends) {
             return None;
         }
-        let mut places = [0; 7];
+        let mut places = [0; PLACES_MOST];
         places[..ends.len()].copy_from_slice(ends);
         Some(Perm {
             len: ends.len(),
@@ -67,9 +71,7 @@ impl Perm {
         requires { IsDescentAt place self.old }
         ensures { self.new ≡ exchanged place self.old }
     {
-        let left = self.ends[place - 1];
-        self.ends[place - 1] = self.ends[place];
-        self.ends[place] = left;
+        self.ends.swap(place - 1, place);
     }
 }
 

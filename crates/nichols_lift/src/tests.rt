@@ -1,5 +1,7 @@
-ghost use Rattle.std.specs.Prelude.{IfSome};
-ghost use Rattle.nichols_tensor.specs.Words.{IsWordOver};
+ghost use Rattle.std.specs.Prelude.{IfOk, IfSome};
+ghost use Rattle.nichols_tensor.specs.Combination.{AllElements};
+ghost use Rattle.nichols_tensor.specs.Words.{IsOver, IsWordOver};
+ghost use Rattle.nichols_lift.specs.Lengths.{AllAtMost};
 
 use super::*;
 use nichols_braid::{Braid, Scalars};
@@ -63,7 +65,7 @@ fn image(alloc: Global, braid: &Braid, letters: &[u8]) -> Result<Comb, Fail> {
     let word = word_over(braid, letters).ok_or("no word")?;
     let comb = Comb::single(alloc, field, word, field.from_i64(1))?;
     if word.len() > 7 {
-        return Ok(comb);
+        return Err("more than 7 letters".into());
     }
     let image = symmetrize(alloc, braid, &comb)?;
     Ok(image)
@@ -83,6 +85,41 @@ fn images_over_the_three_transpositions(rt: HostRuntime) -> Result<(), Fail> {
     }
     let zero = symmetrize(rt.alloc(), &three, &Comb::zero(rt.alloc()))?;
     assert!(rt; zero.is_zero());
+    Ok(())
+}
+
+/// A sum of words of at most 7 letters, and one word more.
+fn with_word(alloc: Global, braid: &Braid, sum: &Comb, letters: &[u8]) -> Result<Comb, Fail>
+    requires lengths { AllAtMost 7 sum.now }
+    requires letters { IsOver braid.now.letters sum.now }
+    requires elements { AllElements braid.now.field sum.now }
+    ensures lengths { IfOk result (AllAtMost 7) }
+    ensures letters { IfOk result (IsOver braid.now.letters) }
+    ensures elements { IfOk result (AllElements braid.now.field) }
+{
+    let field = braid.field();
+    let one = field.from_i64(1);
+    let word = word_over(braid, letters).ok_or("no word")?;
+    if word.len() > 7 {
+        return Err("more than 7 letters".into());
+    }
+    let single = Comb::single(alloc, field, word, one)?;
+    let longer = sum.add_scaled(alloc, field, one, &single)?;
+    Ok(longer)
+}
+
+/// The images of `1.2`, `2.3` and `3.1` add up to zero, and `1*e` is its own image.
+#[test]
+fn the_image_of_a_sum(rt: HostRuntime) -> Result<(), Fail> {
+    let three = three_transpositions(rt.alloc())?;
+    let none = Comb::zero(rt.alloc());
+    let empty = with_word(rt.alloc(), &three, &none, &[])?;
+    let first = with_word(rt.alloc(), &three, &empty, &[1, 2])?;
+    let second = with_word(rt.alloc(), &three, &first, &[2, 3])?;
+    let third = with_word(rt.alloc(), &three, &second, &[3, 1])?;
+    assert_eq!(rt; third.terms().len(), 4);
+    let found = symmetrize(rt.alloc(), &three, &third)?;
+    assert!(rt; has_terms(&found, &[(&[], 1)]));
     Ok(())
 }
 
@@ -139,10 +176,11 @@ fn lifts_over_the_three_transpositions(rt: HostRuntime) -> Result<(), Fail> {
 fn a_crossing(rt: HostRuntime) -> Result<(), Fail> {
     let three = three_transpositions(rt.alloc())?;
     let mut word = word_over(&three, &[1, 2, 3]).ok_or("no word")?;
-    if word.len() == 3 {
-        let met = cross_at(&three, &mut word, 2);
-        assert!(rt; word.letters() == [1, 1, 2].as_slice() && met == 100);
+    if word.len() != 3 {
+        return Err("not three letters".into());
     }
+    let met = cross_at(&three, &mut word, 2);
+    assert!(rt; word.letters() == [1, 1, 2].as_slice() && met == 100);
     Ok(())
 }
 
@@ -152,12 +190,14 @@ fn both_lists_of_the_reversal(rt: HostRuntime) -> Result<(), Fail> {
     let three = three_transpositions(rt.alloc())?;
     let word = word_over(&three, &[1, 2, 3]).ok_or("no word")?;
     let reversal = Perm::new(&[3, 2, 1]).ok_or("no permutation")?;
-    if word.len() == 3 {
-        let lifted = lift(&three, &reversal, &word);
-        let first = lift_by(&three, &reversal, &[1, 2, 1], &word);
-        let second = lift_by(&three, &reversal, &[2, 1, 2], &word);
-        assert!(rt; first.0 == lifted.0 && first.1 == lifted.1);
-        assert!(rt; second.0 == lifted.0 && second.1 == lifted.1);
+    if word.len() != 3 {
+        return Err("not three letters".into());
     }
+    let (found, met) = lift(&three, &reversal, &word);
+    assert!(rt; found.letters() == [1, 3, 1].as_slice() && met == 100);
+    let first = lift_by(&three, &reversal, &[1, 2, 1], &word);
+    assert!(rt; first.0 == found && first.1 == met);
+    let second = lift_by(&three, &reversal, &[2, 1, 2], &word);
+    assert!(rt; second.0 == found && second.1 == met);
     Ok(())
 }

@@ -9,18 +9,16 @@ use Rattle.nichols_tensor.specs.Combination.{Term, Combination, value_at, HasSam
 use Rattle.nichols_tensor.specs.WordOrder.{IsBelowFirst, IsRising, IsOrdered}
 use Rattle.nichols_tensor.proofs.Values.{value_is_element, value_at-append, value_at-scaled}
 use Rattle.nichols_tensor.proofs.Order.{below_after}
-use Rattle.nichols_tensor.proofs.Over.{all-scaled}
+use Rattle.nichols_tensor.proofs.Over.{all-append, all-scaled}
 
 pub elements-append : (k : FieldValue) (f g : Combination) → AllElements k f → AllElements k g → AllElements k (f ++ g)
-elements-append k [] g h e = e
-elements-append k (s ∷ f) g h e = (h.0, elements-append k f g h.1 e)
+elements-append k f g h e = all-append (λ t. IsElement k t.coefficient) f g h e
 
 pub elements-push : (k : FieldValue) (f : Combination) (t : Term) → AllElements k f → IsElement k t.coefficient → AllElements k (f ++ t ∷ [])
 elements-push k f t h e = elements-append k f (t ∷ []) h (e, tt)
 
 pub nonzero-push : (f : Combination) (t : Term) → AllNonzero f → t.coefficient ≢ 0 → AllNonzero (f ++ t ∷ [])
-nonzero-push [] t h e = (e, tt)
-nonzero-push (s ∷ f) t h e = (h.0, nonzero-push f t h.1 e)
+nonzero-push f t h e = all-append (λ s. s.coefficient ≢ 0) f (t ∷ []) h (e, tt)
 
 pub value_at-push : (k : FieldValue) → IsField k → (f : Combination) (t : Term) (w : List ℕ) → IsElement k t.coefficient → value_at k (f ++ t ∷ []) w ≡ plus k (value_at k f w) (cond (same_letters t.word w) t.coefficient 0)
 value_at-push k is f t w e =

@@ -7,11 +7,14 @@ use Rattle.nichols_tensor.specs.Members.{IsIn}
 use Rattle.nichols_tensor.specs.Combination.{Combination, words_of, AllAmong, scaled}
 use Rattle.nichols_tensor.specs.Words.{IsLetterOf, IsWordOver, IsOver, HasDegree}
 
+pub all-append : {X : Type 0} (P : X → Type 0) (xs ys : List X) → AllByRecursion P xs → AllByRecursion P ys → AllByRecursion P (xs ++ ys)
+all-append P [] ys h k = k
+all-append P (x ∷ xs) ys h k = (h.0, all-append P xs ys h.1 k)
+
 -- ---- words
 
 pub word_over-append : (n : ℕ) (v w : List ℕ) → IsWordOver n v → IsWordOver n w → IsWordOver n (v ++ w)
-word_over-append n [] w h k = k
-word_over-append n (a ∷ v) w h k = (h.0, word_over-append n v w h.1 k)
+word_over-append n v w h k = all-append (IsLetterOf n) v w h k
 
 pub word_over_front : (n : ℕ) (v w : List ℕ) → IsWordOver n (v ++ w) → IsWordOver n v
 word_over_front n [] w h = tt
@@ -33,10 +36,6 @@ letter_over n (a ∷ w) zero h less = h.0
 letter_over n (a ∷ w) (suc k) h less = letter_over n w k h.1 (omega arith)
 
 -- ---- combinations
-
-pub all-append : {X : Type 0} (P : X → Type 0) (xs ys : List X) → AllByRecursion P xs → AllByRecursion P ys → AllByRecursion P (xs ++ ys)
-all-append P [] ys h k = k
-all-append P (x ∷ xs) ys h k = (h.0, all-append P xs ys h.1 k)
 
 pub all_at : {X : Type 0} (P : X → Type 0) (xs : List X) (x : X) → AllByRecursion P xs → IsIn x xs → P x
 unfolding IsIn

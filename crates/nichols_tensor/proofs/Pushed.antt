@@ -4,14 +4,14 @@ use Rattle.std.proofs.lemmas.List.{take_more, append-nil, length-append, length-
 use Rattle.std.proofs.lemmas.Grind.{flat_map-append}
 use Rattle.nichols_tensor.specs.Words.{up_to, IsLetterOf, IsWordOver, with_letters}
 use Rattle.nichols_tensor.proofs.Letters.{up_to_length}
+use Rattle.nichols_tensor.proofs.Over.{word_over-append}
 
 pub pushed_length : (w : List ℕ) (b : ℕ) → length (w ++ b ∷ []) ≡ suc (length w)
 pushed_length [] b = refl
 pushed_length (x ∷ w) b = ap suc (pushed_length w b)
 
 pub pushed_over : (n : ℕ) (w : List ℕ) (b : ℕ) → IsWordOver n w → IsLetterOf n b → IsWordOver n (w ++ b ∷ [])
-pushed_over n [] b h l = (l, tt)
-pushed_over n (x ∷ w) b h l = (h.0, pushed_over n w b h.1 l)
+pushed_over n w b h l = word_over-append n w (b ∷ []) h (l, tt)
 
 pub over_pushed : (n : ℕ) (w : List ℕ) (b : ℕ) → IsWordOver n (w ++ b ∷ []) → IsWordOver n w × IsLetterOf n b
 over_pushed n [] b h = (tt, h.0)

@@ -4,3 +4,4 @@ pub mod WordOrder
 pub mod Words
 pub mod Relation
 pub mod Positions
+pub mod Inline

@@ -7,17 +7,17 @@ use Rattle.std.proofs.Math.Seq.{drop-append_seam}
 use Rattle.std.proofs.Math.ListN.{drop_of_length-le}
 use Rattle.std.proofs.lemmas.Slice.{take-put_mid_below}
 use borrow.Rule.Slice.PartMut.{put_mid, post_of}
+use Rattle.nichols_tensor.specs.Inline.{IsInline}
 use Rattle.nichols_tensor.specs.Words.{IsLetterOf, IsWordOver, letter_limit}
 use Rattle.nichols_tensor.proofs.Over.{word_over-append, word_over-take}
 use Rattle.nichols_words.specs.Word.{word_limit}
-use Rattle.nichols_words.specs.Inline.{IsInline}
 
-pub inline-push : (n : ℕ) (xs : List ℕ) (x : ℕ) → IsInline n xs → n < word_limit → IsLetterOf letter_limit x → IsInline (n + 1) (set xs n x)
+pub inline-push : (n : ℕ) (xs : List ℕ) (x : ℕ) → IsInline word_limit (IsWordOver letter_limit) n xs → n < word_limit → IsLetterOf letter_limit x → IsInline word_limit (IsWordOver letter_limit) (n + 1) (set xs n x)
 inline-push n xs x h room letter = record {
   short = omega arith;
   whole = length-set xs n x ∙ h.whole;
   padded = drop-set-lt (n + 1) xs n x (omega arith) ∙ sym (drop-drop 1 n xs) ∙ ap (drop 1) h.padded ∙ drop-replicate 1 (word_limit - n) 0 ∙ ap (λ k. replicate k 0) less;
-  in_range = subst (IsWordOver letter_limit) (sym (take-set_at xs n (n + 1) x refl inside)) (word_over-append letter_limit (take n xs) (x ∷ []) h.in_range (letter, tt));
+  holds = subst (IsWordOver letter_limit) (sym (take-set_at xs n (n + 1) x refl inside)) (word_over-append letter_limit (take n xs) (x ∷ []) h.holds (letter, tt));
 }
   where
     inside : n < length xs
@@ -27,12 +27,12 @@ inline-push n xs x h room letter = record {
     less = omega arith
 
 -- the array with zeros from place k on
-pub inline-prefix : (n k m : ℕ) (xs ys : List ℕ) → IsInline n xs → k ≤ n → m ≡ word_limit - k → ys ≡ replicate m 0 → IsInline k (put_mid k (word_limit - k) xs ys)
+pub inline-prefix : (n k m : ℕ) (xs ys : List ℕ) → IsInline word_limit (IsWordOver letter_limit) n xs → k ≤ n → m ≡ word_limit - k → ys ≡ replicate m 0 → IsInline word_limit (IsWordOver letter_limit) k (put_mid k (word_limit - k) xs ys)
 inline-prefix n k m xs ys h few size zeros = record {
   short = omega (arith, h.short);
   whole = ap length shape ∙ length-append (take k xs) ys ∙ omega (arith, kept, long, h.short);
   padded = ap (drop k) shape ∙ ap (λ i. drop i (take k xs ++ ys)) (sym kept) ∙ drop-append_seam (take k xs) ys ∙ zeros ∙ ap (λ i. replicate i 0) size;
-  in_range = subst (IsWordOver letter_limit) (sym front) (word_over-take letter_limit k (take n xs) h.in_range);
+  holds = subst (IsWordOver letter_limit) (sym front) (word_over-take letter_limit k (take n xs) h.holds);
 }
   where
     within : k ≤ length xs

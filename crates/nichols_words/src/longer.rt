@@ -3,24 +3,11 @@
 ghost use Rattle.std.specs.Prelude.{◌≡◌, ◌<◌, ◌≤◌, ◌++◌, ◌∷◌, [], IfOk, length, map};
 ghost use Rattle.std.specs.Result.{OnOk};
 ghost use Rattle.std.specs.List.{AllByRecursion};
-ghost use Rattle.nichols_tensor.specs.Words.{IsLetterOf, letter_limit, up_to, with_letters};
+ghost use Rattle.nichols_tensor.specs.Words.{letter_limit, up_to, with_letters};
 ghost use Rattle.nichols_words.specs.Word.{word_limit};
 
 use crate::Word;
 use std::alloc::{AllocError, Global};
-
-impl Word {
-    /// The word with a letter behind.
-    pub fn followed_by(&self, letter: u8) -> Word
-        requires room { length self.now < word_limit }
-        requires letter { IsLetterOf letter_limit letter }
-        ensures { result ≡ self.now ++ letter ∷ [] }
-    {
-        let mut longer = *self;
-        let _room = longer.push(letter);
-        longer
-    }
-}
 
 /// Puts a word with each letter behind, behind the words that are there.
 fn put_followed(longer: &mut Vec<Word>, letters: u8, word: &Word) -> Result<(), AllocError>

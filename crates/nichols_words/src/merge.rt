@@ -40,7 +40,7 @@ fn next<'a>(field: Field, by: u32, xs: &'a [Term], ys: &'a [Term]) -> (Term, &'a
 }
 
 /// The terms of the sum of the left combination and a multiple of the right one.
-pub fn merge(
+pub(crate) fn merge(
     alloc: Global,
     field: Field,
     by: u32,

@@ -9,7 +9,7 @@ use nichols_field::Field;
 use std::alloc::{AllocError, Global};
 
 /// A term with its coefficient multiplied.
-pub fn multiplied(field: Field, by: u32, term: &Term) -> Term
+pub(crate) fn multiplied(field: Field, by: u32, term: &Term) -> Term
     requires factor { IsElement field by }
     requires coefficient { IsElement field term.now.coefficient }
     ensures { result ≡ record { word = term.now.word; coefficient = times field by term.now.coefficient } }
@@ -21,7 +21,7 @@ pub fn multiplied(field: Field, by: u32, term: &Term) -> Term
 }
 
 /// The terms of a multiple, without those whose coefficient became 0.
-pub fn multiples(
+pub(crate) fn multiples(
     alloc: Global,
     field: Field,
     by: u32,

@@ -13,26 +13,26 @@ use std::alloc::{AllocError, Global};
 impl Comb {
     /// The sum of these terms, which stand in any order; a word may stand in several of them, and a coefficient may be 0.
     ///
-    /// A sorted copy of the terms is summed up in one pass, so that n terms take about n log n steps.
-    pub fn sum_of(alloc: Global, field: Field, terms: &[Term]) -> Result<Comb, AllocError>
-        requires { AllElements field terms.now }
-        ensures value { IfOk result (λ r. HasSameValues field r terms.now) }
+    /// The terms are sorted where they stand and summed up in one pass, so that n terms take about n log n steps.
+    pub fn sum_of(alloc: Global, field: Field, terms: &mut [Term]) -> Result<Comb, AllocError>
+        requires { AllElements field terms.old }
+        ensures sorted { IsPermutation terms.old terms.new }
+        ensures value { IfOk result (λ r. HasSameValues field r terms.old) }
         ensures shape { IfOk result IsOrdered }
         ensures elements { IfOk result (AllElements field) }
-        ensures words { IfOk result (λ r. AllAmong r (words_of terms.now)) }
+        ensures words { IfOk result (λ r. AllAmong r (words_of terms.old)) }
     {
         let _modulus = field.modulus();
-        let mut sorted = Vec::from_slice(alloc, terms)?;
-        sort_by_word(&mut sorted);
-        let sum = collected(alloc, field, &sorted)?;
+        sort_by_word(terms);
+        let sum = collected(alloc, field, terms)?;
         Ok(Comb::from_terms(sum))
     }
 }
 
 /// Sorts by word. Terms of one word come to stand together, in any order.
-fn sort_by_word(terms: &mut Vec<Term>)
-    ensures permutation { IsPermutation terms.old.items terms.new.items }
-    ensures sorted { IsSortedByKey (λ (t : PlainTerm). t.word) word_cmp terms.new.items }
+fn sort_by_word(terms: &mut [Term])
+    ensures permutation { IsPermutation terms.old terms.new }
+    ensures sorted { IsSortedByKey (λ (t : PlainTerm). t.word) word_cmp terms.new }
 {
     terms.sort_unstable_by(|a, b| a.word.cmp(&b.word));
 }

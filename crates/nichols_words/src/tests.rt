@@ -30,7 +30,7 @@ fn term(letters: &[u8], coefficient: u32) -> Term
 }
 
 #[test]
-fn letters_and_prefixes(rt: HostRuntime) {
+fn letters_and_prefixes(rt: HostRuntime) -> Result<(), Fail> {
     let w = word(&[3, 1, 24]);
     assert!(rt; Word::empty().is_empty() && !w.is_empty());
     assert_eq!(rt; w.len(), 3);
@@ -38,6 +38,13 @@ fn letters_and_prefixes(rt: HostRuntime) {
     assert!(rt; w.letters() == [3, 1, 24].as_slice());
     assert!(rt; w.prefix(2) == word(&[3, 1]));
     assert!(rt; w.prefix(0) == Word::empty());
+    let mut other = w;
+    if other.is_empty() {
+        return Err("no letters".into());
+    }
+    other.set(0, 2);
+    assert!(rt; other == word(&[2, 1, 24]));
+    Ok(())
 }
 
 #[test]
@@ -122,7 +129,7 @@ fn sums_of_several_terms(rt: HostRuntime) -> Result<(), Fail> {
 #[test]
 fn a_sum_of_terms_in_any_order(rt: HostRuntime) -> Result<(), Fail> {
     let field = Field::new(101).ok().ok_or("the field")?;
-    let terms = [
+    let mut terms = [
         term(&[1, 2], field.from_i64(1)),
         term(&[3], field.from_i64(7)),
         term(&[5], field.from_i64(0)),
@@ -131,9 +138,9 @@ fn a_sum_of_terms_in_any_order(rt: HostRuntime) -> Result<(), Fail> {
         term(&[2], field.from_i64(4)),
         term(&[3, 1], field.from_i64(96)),
     ];
-    let sum = Comb::sum_of(rt.alloc(), field, &terms)?;
+    let sum = Comb::sum_of(rt.alloc(), field, &mut terms)?;
     assert!(rt; has_terms(&sum, &[term(&[2], 4), term(&[3], 7), term(&[1, 2], 3)]));
-    let none = Comb::sum_of(rt.alloc(), field, &[])?;
+    let none = Comb::sum_of(rt.alloc(), field, &mut [])?;
     assert!(rt; none.is_zero());
     Ok(())
 }

@@ -7,24 +7,29 @@ ghost use Rattle.nichols_words.specs.Word.{IsWord, word_limit};
 
 use std::marker::Model;
 
+/// The most letters of a word.
+const LETTERS_MOST: usize = 60;
+
 /// A word of at most 60 letters, each of them from 1 to 24.
 ///
 /// Words are ordered by length, and words of one length by their letters from the left.
 #[derive(Clone, Copy)]
 pub struct Word {
     len: u32,
-    letters: [u8; 60],
+    letters: [u8; LETTERS_MOST],
 }
 
 impl Model for Word {
     ghost use Rattle.std.specs.Prelude.{ℕ, List, take};
-    ghost use Rattle.nichols_words.specs.Inline.{IsInline};
+    ghost use Rattle.nichols_tensor.specs.Inline.{IsInline};
+    ghost use Rattle.nichols_tensor.specs.Words.{IsWordOver, letter_limit};
+    ghost use Rattle.nichols_words.specs.Word.{word_limit};
 
     ghost Value = { List ℕ };
 
     ghost view = { λ w. take w.len w.letters };
 
-    ghost invariant = { λ w. IsInline w.len w.letters };
+    ghost invariant = { λ w. IsInline word_limit (IsWordOver letter_limit) w.len w.letters };
 
     ghost use Rattle.nichols_words.specs.Fields.{fields_of, fields_back};
 
@@ -40,7 +45,7 @@ impl Word {
     {
         Word {
             len: 0,
-            letters: [0; 60],
+            letters: [0; LETTERS_MOST],
         }
     }
 
@@ -107,11 +112,22 @@ impl Word {
         ensures pushed { OnTrue result (self.new ≡ self.old ++ letter ∷ []) }
         ensures full { OnFalse result (self.new ≡ self.old) }
     {
-        if self.len == 60 {
+        if self.len as usize == LETTERS_MOST {
             return false;
         }
         self.letters[self.len as usize] = letter;
         self.len += 1;
         true
+    }
+
+    /// The word with a letter behind.
+    pub fn followed_by(&self, letter: u8) -> Word
+        requires room { length self.now < word_limit }
+        requires letter { IsLetterOf letter_limit letter }
+        ensures { result ≡ self.now ++ letter ∷ [] }
+    {
+        let mut longer = *self;
+        let _room = longer.push(letter);
+        longer
     }
 }

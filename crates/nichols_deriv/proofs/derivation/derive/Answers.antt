@@ -13,8 +13,8 @@ loop-term-preserved c = record {
 
 pub returns-clause-value : goal.returns-clause-value
 returns-clause-value c =
-    derived_end c.args.braid.now c.args.a c.field-field.result c.in_ok-derivative.derivative c.as_slice.result.now c.loop-term.terms.items c.args.comb.now c.terms-term-items.result.now c.loop-term.term-index
-    c.field-field.ensures.field c.as_slice.ensures.value c.terms-term-items.ensures.same c.loop-term-test.false c.in_ok-derivative.ensures.value c.loop-term.invariant.value
+    derived_end c.args.braid.now c.args.a c.field-field.result c.in_ok-derivative.derivative c.as_mut_slice.result.now c.loop-term.terms.items c.args.comb.now c.terms-term-items.result.now c.loop-term.term-index
+    c.field-field.ensures.field c.as_mut_slice.ensures.value c.terms-term-items.ensures.same c.loop-term-test.false c.in_ok-derivative.ensures.value c.loop-term.invariant.value
 
 pub returns-clause-letters : goal.returns-clause-letters
 returns-clause-letters c =

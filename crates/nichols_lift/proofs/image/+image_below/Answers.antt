@@ -28,7 +28,7 @@ pub put_behind-requires-clause-room : goal.put_behind-requires-clause-room
 put_behind-requires-clause-room t c = with_room c.in_ok-part.part c.args.limit c.requires.limit c.in_ok-part.ensures.lengths
 
 pub sum_of-requires : goal.sum_of-requires
-sum_of-requires t c = rw (c.field-field.ensures.field, c.as_slice.ensures.value) c.loop-i.invariant.elements
+sum_of-requires t c = rw (c.field-field.ensures.field, c.as_mut_slice.ensures.value) c.loop-i.invariant.elements
 
 pub loop-i-init : goal.loop-i-init
 loop-i-init t c =
@@ -55,7 +55,7 @@ pub returns-clause-value : goal.returns-clause-value
 returns-clause-value t c =
     let all : c.loop-i.i ≡ c.args.braid.now.letters = omega (arith, c.letters-i-end.ensures, c.loop-i-test.false, c.loop-i.auto.i-end) in
     summed_all c.args.braid.now c.field-field.ensures.braid c.args.comb.now c.requires.letters c.loop-i.i c.loop-i.terms.items c.in_ok-image-2.image all c.loop-i.invariant
-    (λ v. ap (λ k. value_at k c.in_ok-image-2.image v) (sym c.field-field.ensures.field) ∙ c.in_ok-image-2.ensures.value v ∙ ap₂ (λ k g. value_at k g v) c.field-field.ensures.field c.as_slice.ensures.value)
+    (λ v. ap (λ k. value_at k c.in_ok-image-2.image v) (sym c.field-field.ensures.field) ∙ c.in_ok-image-2.ensures.value v ∙ ap₂ (λ k g. value_at k g v) c.field-field.ensures.field c.as_mut_slice.ensures.value)
 
 pub returns-clause-lengths : goal.returns-clause-lengths
 returns-clause-lengths t c =
