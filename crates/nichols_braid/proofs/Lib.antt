@@ -23,6 +23,7 @@ pub mod Candidates
 pub mod Agreement
 pub mod Spanning
 pub mod LeastLaws
+pub mod EndLaws
 pub mod FirstDegree
 pub mod Complete
 pub mod AsGiven

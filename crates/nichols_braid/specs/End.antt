@@ -5,6 +5,10 @@ use Rattle.nichols_braid.specs.Braid.{BraidValue}
 use Rattle.nichols_braid.specs.Kernel.{Vanishing}
 use Rattle.nichols_braid.specs.Least.{basis}
 
+-- the greatest degree that is computed
+abbrev pub most_degrees : ℕ
+most_degrees = 60
+
 -- the dimension of degree m: the number of its least words
 abbrev pub dimension : Vanishing → BraidValue → ℕ → ℕ
 dimension vanishes braid m = length (basis vanishes braid m)
@@ -22,6 +26,6 @@ finished_from vanishes braid (suc left) m = m ∷ (if is_empty_degree vanishes b
 unfoldable pub finished : Vanishing → BraidValue → ℕ → List ℕ
 finished vanishes braid limit = finished_from vanishes braid (suc limit) 0
 
--- whether the algebra is closed: its last finished degree is empty
+-- whether the algebra is closed: some finished degree is empty, which is then the last
 unfoldable pub is_closed : Vanishing → BraidValue → ℕ → Bool
 is_closed vanishes braid limit = list_any (is_empty_degree vanishes braid) (finished vanishes braid limit)

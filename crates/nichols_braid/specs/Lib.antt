@@ -16,4 +16,5 @@ pub mod IdealTest
 pub mod Laws
 pub mod LeastLaws
 pub mod End
+pub mod EndLaws
 pub mod TableLaws

@@ -3,6 +3,7 @@
 ghost use Rattle.nichols_braid.specs.TableLaws.{BraidsAreAccepted, AcceptedTablesAreBraids};
 ghost use Rattle.nichols_braid.specs.Laws.{PermutationsHoldEachOnce, SymmetrizerIsLinear, DerivationsAreLinear, DerivationRule, KilledIsRightIdeal, KilledIsDecided, KernelIsDecided, KilledIsLinear, KernelIsLinear, KilledIsIdeal};
 ghost use Rattle.nichols_braid.specs.LeastLaws.{LeastWordsAreTested, BasisHasLeastWords, BasisIsIndependent, NormalFormsAreUnique, NormalFormsTellClasses, ZeroHasNoTerms, NormalFormIsLinear, LeastWordsAreNormal, AgreeingTestsReadAlike, BasisIsAmongCandidates, RelationsRise};
+ghost use Rattle.nichols_braid.specs.EndLaws.{FinishedDegrees, ClosedWhereADegreeIsEmpty};
 
 /// A braid over the given field, with the given letters and scalars at their places, is what is accepted.
 #[tactic(auto, using(crate::proofs::Complete::braids_are_accepted))]
@@ -133,4 +134,16 @@ pub fn basis_is_among_candidates()
 #[tactic(auto, using(crate::proofs::LeastLaws::relations_rise))]
 pub fn relations_rise()
     ensures { RelationsRise }
+{}
+
+/// A degree is finished exactly where it is within the limit and no degree below it is empty; the finished degrees stand in order, from 0 on.
+#[tactic(auto, using(crate::proofs::EndLaws::finished_degrees))]
+pub fn finished_degrees()
+    ensures { FinishedDegrees }
+{}
+
+/// The algebra is closed exactly where some degree within the limit is empty.
+#[tactic(auto, using(crate::proofs::EndLaws::closed_where_a_degree_is_empty))]
+pub fn closed_where_a_degree_is_empty()
+    ensures { ClosedWhereADegreeIsEmpty }
 {}
