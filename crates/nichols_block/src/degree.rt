@@ -1,7 +1,7 @@
 //! A degree from the degree below.
 
 ghost use Rattle.std.specs.Prelude.{◌<◌, IfOk, suc};
-ghost use Rattle.nichols_block.specs.Levels.{degree_limit};
+ghost use Rattle.nichols_braid.specs.End.{most_degrees};
 ghost use Rattle.nichols_block.specs.Rule.{IsRuleOf};
 
 use crate::derivatives::all_derivatives;
@@ -10,7 +10,7 @@ use crate::rows::rows_of;
 use crate::rule::DegreeRule;
 use nichols_braid::Braid;
 use nichols_echelon::split_rows;
-use nichols_rows::{least_words, relations};
+use nichols_rows::{independent_words, relations};
 use nichols_words::with_letters;
 use std::alloc::{AllocError, Global};
 
@@ -26,7 +26,7 @@ pub fn make_degree(
     lower: &DegreeRule,
 ) -> Result<DegreeRule, AllocError>
     requires rule { IsRuleOf braid.now lower.now.degree lower.now }
-    requires degree { lower.now.degree < degree_limit }
+    requires degree { lower.now.degree < most_degrees }
     ensures { IfOk result (IsRuleOf braid.now (suc lower.now.degree)) }
 {
     let field = braid.field();
@@ -42,7 +42,7 @@ pub fn make_degree(
     let listed = words.as_slice();
     let found = places.as_slice();
     let table = relations(alloc, listed, found)?;
-    let basis = least_words(alloc, listed, found)?;
+    let basis = independent_words(alloc, listed, found)?;
     let derivs = least_derivatives(alloc, all, found)?;
     Ok(DegreeRule {
         degree: lower.degree + 1,

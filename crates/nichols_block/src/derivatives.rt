@@ -11,8 +11,8 @@ ghost use Rattle.nichols_words.specs.Word.{word_limit};
 ghost use Rattle.nichols_braid.specs.Braid.{IsLetter};
 ghost use Rattle.nichols_braid.specs.Kernel.{is_killed};
 ghost use Rattle.nichols_braid.specs.Least.{basis, candidates, relations};
+ghost use Rattle.nichols_braid.specs.End.{most_degrees};
 ghost use Rattle.nichols_block.specs.Forms.{AllShort, IsTable, derived_from, followed_form, form_in};
-ghost use Rattle.nichols_block.specs.Levels.{degree_limit};
 ghost use Rattle.nichols_block.specs.Rule.{IsRuleOf, derived_forms};
 
 use crate::rule::{DegreeRule, Derivatives};
@@ -142,7 +142,7 @@ fn derivative(
     let field = braid.field();
     terms.clear();
     put_derivative(braid, table, u, form, a, b, terms)?;
-    Comb::sum_of(alloc, field, terms.as_slice())
+    Comb::sum_of(alloc, field, terms.as_mut_slice())
 }
 
 /// The normal forms of the derivatives of `u x_b`, from those of the least word u.
@@ -199,7 +199,7 @@ pub(crate) fn all_derivatives(
     lower: &DegreeRule,
 ) -> Result<Vec<Derivatives>, AllocError>
     requires rule { IsRuleOf braid.now lower.now.degree lower.now }
-    requires degree { lower.now.degree < degree_limit }
+    requires degree { lower.now.degree < most_degrees }
     ensures { IfOk result (λ r. r.items ≡ map (derived_forms braid.now (suc lower.now.degree)) (candidates is_killed braid.now (suc lower.now.degree))) }
 {
     let table = lower.table.as_slice();

@@ -4,7 +4,7 @@ ghost use Rattle.std.specs.Prelude.{◌≡◌, ◌<◌, ◌≤◌, ◌↔◌, If
 ghost use Rattle.nichols_tensor.specs.Words.{up_to};
 ghost use Rattle.nichols_braid.specs.Kernel.{is_killed};
 ghost use Rattle.nichols_braid.specs.Least.{basis};
-ghost use Rattle.nichols_block.specs.Levels.{degree_limit};
+ghost use Rattle.nichols_braid.specs.End.{most_degrees};
 ghost use Rattle.nichols_block.specs.Rule.{IsRuleOf};
 
 use crate::rule::{DegreeRule, Derivatives};
@@ -74,7 +74,7 @@ impl Levels {
     /// Puts the rule of the next degree, which is at most 60, on top. On an error the levels are as before, and the rule is gone.
     pub fn push(&mut self, rule: DegreeRule) -> Result<(), AllocError>
         requires next { IsRuleOf self.old.braid (suc self.old.last) rule }
-        requires room { self.old.last < degree_limit }
+        requires room { self.old.last < most_degrees }
         ensures pushed { OnOk result (self.new ≡ record { braid = self.old.braid; last = suc self.old.last }) }
         ensures kept { OnErr result (self.new ≡ self.old) }
     {
@@ -94,7 +94,7 @@ impl Levels {
     /// The last degree.
     pub fn last(&self) -> u32
         ensures value { result ≡ self.now.last }
-        ensures limit { result ≤ degree_limit }
+        ensures limit { result ≤ most_degrees }
     {
         (self.rules.len() - 1) as u32
     }

@@ -60,10 +60,7 @@ fn row_of(alloc: Global, basis: &[Word], forms: &[Comb]) -> Result<Row, AllocErr
     for (k, form) in forms.iter().enumerate() {
         push_cells(&mut cells, basis, k * basis.len(), form.terms())?;
     }
-    match Row::from_cells(cells) {
-        Some(row) => Ok(row),
-        None => unreachable!(),
-    }
+    Ok(Row::of(cells))
 }
 
 /// The rows of all candidates.

@@ -88,8 +88,10 @@ impl Row {
         }
     }
 
-    /// The row of cells that are known to be one.
-    pub(crate) fn of(cells: Vec<Cell>) -> Row
+    /// The row of cells whose columns are known to rise and whose coefficients aren't 0.
+    ///
+    /// It takes no memory.
+    pub fn of(cells: Vec<Cell>) -> Row
         requires { IsRow cells.items }
         ensures { result ≡ cells.items }
     {

@@ -7,7 +7,7 @@ ghost use Rattle.nichols_plain.specs.Columns.{number_of};
 use nichols_words::Word;
 
 /// The number of a word among the words of its length over these letters, from 0, in word order.
-pub fn column_of(letters: u8, word: &Word) -> u32
+pub(crate) fn column_of(letters: u8, word: &Word) -> u32
     requires letters { IsWordOver letters word.now }
     requires columns { letters ^ length word.now < 2 ^ 32 }
     ensures { result ≡ number_of letters word.now }

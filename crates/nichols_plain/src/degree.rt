@@ -9,7 +9,7 @@ ghost use Rattle.nichols_plain.specs.Degree.{IsDegree};
 use crate::images::image_rows;
 use nichols_braid::Braid;
 use nichols_echelon::split_rows;
-use nichols_rows::{least_words, relations};
+use nichols_rows::{independent_words, relations};
 use nichols_words::{Relation, Word, with_letters};
 use std::alloc::{AllocError, Global};
 
@@ -58,7 +58,7 @@ fn sorted_out(
     let rows = image_rows(alloc, braid, words)?;
     let places = split_rows(alloc, field, rows.as_slice())?;
     let found = places.as_slice();
-    let basis = least_words(alloc, words, found)?;
+    let basis = independent_words(alloc, words, found)?;
     let relations = relations(alloc, words, found)?;
     Ok(PlainDegree {
         degree,

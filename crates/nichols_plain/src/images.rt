@@ -30,14 +30,15 @@ fn image_row(alloc: Global, braid: &Braid, word: &Word) -> Result<Row, AllocErro
             coefficient: term.coefficient,
         })?;
     }
-    match Row::from_cells(cells) {
-        Some(row) => Ok(row),
-        None => unreachable!(),
-    }
+    Ok(Row::of(cells))
 }
 
 /// The images of words as rows, one for each word.
-pub fn image_rows(alloc: Global, braid: &Braid, words: &[Word]) -> Result<Vec<Row>, AllocError>
+pub(crate) fn image_rows(
+    alloc: Global,
+    braid: &Braid,
+    words: &[Word],
+) -> Result<Vec<Row>, AllocError>
     requires { AllByRecursion (HasColumns braid.now) words.now }
     ensures count { IfOk result (λ rows. length rows.items ≡ length words.now) }
     ensures entries { IfOk result (λ rows. (i : ℕ) → i < length words.now → (column : ℕ) → entry braid.now.field (row_at rows.items i) column ≡ image_entry braid.now column (word_at words.now i)) }

@@ -63,7 +63,7 @@ fn has_relations(relations: &[Relation], expected: &[Expected]) -> bool {
 fn degrees_over_the_three_transpositions(rt: HostRuntime) -> Result<(), Fail> {
     let three = three_transpositions(rt.alloc())?;
     if three.letters() != 3 {
-        return Ok(());
+        return Err("not three letters".into());
     }
     let none = plain_degree(rt.alloc(), &three, 0)?;
     assert!(rt; has_words(none.basis.as_slice(), &[&[]]) && none.relations.is_empty());
@@ -97,7 +97,7 @@ fn degrees_over_one_letter(rt: HostRuntime) -> Result<(), Fail> {
     let minus = braid(rt.alloc(), 7, &[&[1]], &[&[-1]])?;
     let two = braid(rt.alloc(), 7, &[&[1]], &[&[2]])?;
     if minus.letters() != 1 || two.letters() != 1 {
-        return Ok(());
+        return Err("not one letter".into());
     }
     let square = plain_degree(rt.alloc(), &minus, 2)?;
     assert!(rt; square.basis.is_empty());
@@ -114,7 +114,7 @@ fn degrees_over_one_letter(rt: HostRuntime) -> Result<(), Fail> {
 fn degrees_over_two_elements(rt: HostRuntime) -> Result<(), Fail> {
     let two = braid(rt.alloc(), 2, &[&[1, 2], &[1, 2]], &[&[1, 1], &[1, 1]])?;
     if two.letters() != 2 {
-        return Ok(());
+        return Err("not two letters".into());
     }
     let pairs = plain_degree(rt.alloc(), &two, 2)?;
     assert_eq!(rt; pairs.degree, 2);

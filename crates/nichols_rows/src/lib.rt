@@ -3,4 +3,7 @@
 
 mod reading;
 
-pub use reading::{least_words, relations};
+pub use reading::{independent_words, relations};
+
+#[cfg(test)]
+mod tests;

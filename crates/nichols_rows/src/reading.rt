@@ -46,7 +46,9 @@ fn push_relation(
     Ok(())
 }
 
-/// The words whose rows depend on rows before them, with their forms.
+/// The words whose rows depend on rows before them, in order, each with the combination of words that its place gives.
+///
+/// `places[k]` is the place of the row of `words[k]`; the words rise, and the positions in a place count from 0.
 pub fn relations(
     alloc: Global,
     words: &[Word],
@@ -64,8 +66,13 @@ pub fn relations(
     Ok(out)
 }
 
-/// The words whose rows are independent.
-pub fn least_words(alloc: Global, words: &[Word], places: &[Place]) -> Result<Vec<Word>, AllocError>
+/// The words whose rows are independent, in order: those of `words` with an independent place, where `places[k]` is the place
+/// of the row of `words[k]`.
+pub fn independent_words(
+    alloc: Global,
+    words: &[Word],
+    places: &[Place],
+) -> Result<Vec<Word>, AllocError>
     requires { length places.now ≡ length words.now }
     ensures { IfOk result (λ r. r.items ≡ independent_in words.now places.now) }
 {

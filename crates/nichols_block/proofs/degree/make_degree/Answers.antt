@@ -82,8 +82,8 @@ relations-requires-clause-inside c =
     subst (AllByRecursion (IsInside (length c.as_slice-listed.result.now))) (sym c.as_slice-found.ensures.value)
     (places_inside c.args.braid.now.field c.in_ok-rows.rows.items c.as_slice-listed.result.now c.in_ok-places.places.items (rows_count c.args.braid.now m c.as_slice-listed.result.now c.in_ok-rows.rows.items (c.as_slice-listed.ensures.value ∙ w) r) split)
 
-pub least_words-requires : goal.least_words-requires
-least_words-requires c =
+pub independent_words-requires : goal.independent_words-requires
+independent_words-requires c =
     let m : ℕ = c.args.lower.now.degree in
     let us : c.as_slice-below.result.now ≡ basis is_killed c.args.braid.now m = c.as_slice-below.ensures.value ∙ ap (λ (r : PlainRule). r.basis) c.lower.view_is ∙ rule_basis c.args.braid.now m c.args.lower.now c.requires.rule in
     let w : c.in_ok-words.words.items ≡ candidates is_killed c.args.braid.now (suc m) = words_are_candidates c.args.braid.now m c.as_slice-below.result.now c.in_ok-words.words.items c.letters.result us c.letters.ensures c.in_ok-words.ensures in

@@ -23,23 +23,22 @@ column_of-requires-clause-columns c =
     ∙ All-from_recursion (λ (t : Term). length t.word ≡ length c.args.word.now) c.terms-term-items.result.now degree c.loop-term.term-index c.term-item.result c.loop-term-test.true in
     subst (λ e. e < 2 ^ 32) (sym (ap₂ (λ n l. n ^ l) c.letters.ensures size)) c.requires.columns
 
-pub unreachable-requires : goal.unreachable-requires
-unreachable-requires c =
+pub of-requires : goal.of-requires
+of-requires c =
     let cells : c.loop-term.cells.items ≡ numbered c.args.braid.now.letters c.in_ok-image.image =
     row_is c.args.braid.now.letters 0 c.loop-term.cells.items c.terms-term-items.result.now c.in_ok-image.image c.loop-term.term-index c.terms-term-items.ensures.same c.loop-term-test.false c.loop-term.invariant in
-    c.in-None.ensures
-    (subst IsRow (sym cells)
+    subst IsRow (sym cells)
     (numbered_is_row c.args.braid.now.letters (length c.args.word.now) c.in_ok-image.image (c.in_ok-image.ensures.degree (length c.args.word.now) c.in_ok-single.ensures.degree) c.in_ok-image.ensures.letters
-    c.in_ok-image.ensures.shape.rising c.in_ok-image.ensures.shape.nonzero))
+    c.in_ok-image.ensures.shape.rising c.in_ok-image.ensures.shape.nonzero)
 
-row : (c : After-drop-single-inside-2) → c.in-Some.row ≡ numbered c.args.braid.now.letters c.in_ok-image.image
+row : (c : After-drop-single-inside-2) → c.of.result ≡ numbered c.args.braid.now.letters c.in_ok-image.image
 row c =
-    c.in-Some.ensures.0
+    c.of.ensures
     ∙ row_is c.args.braid.now.letters 0 c.loop-term.cells.items c.terms-term-items.result.now c.in_ok-image.image c.loop-term.term-index c.terms-term-items.ensures.same c.loop-term-test.false c.loop-term.invariant
 
 pub returns-clause-entries : goal.returns-clause-entries
 returns-clause-entries c =
-    row_entries c.args.braid.now c.field-field.ensures.braid c.args.word.now c.in_ok-single.single c.in_ok-image.image c.in-Some.row c.in_ok-single.ensures.terms c.in_ok-image.ensures.elements c.in_ok-image.ensures.value (row c)
+    row_entries c.args.braid.now c.field-field.ensures.braid c.args.word.now c.in_ok-single.single c.in_ok-image.image c.of.result c.in_ok-single.ensures.terms c.in_ok-image.ensures.elements c.in_ok-image.ensures.value (row c)
 
 pub returns-clause-elements : goal.returns-clause-elements
-returns-clause-elements c = row_elements c.args.braid.now.field c.args.braid.now.letters c.in-Some.row c.in_ok-image.image (row c) c.in_ok-image.ensures.elements
+returns-clause-elements c = row_elements c.args.braid.now.field c.args.braid.now.letters c.of.result c.in_ok-image.image (row c) c.in_ok-image.ensures.elements
