@@ -2,7 +2,7 @@
 use Rattle.std.specs.Prelude.{◌≡◌, ℕ, ◌+◌, ◌<◌, ◌≤◌, Bool, false, Option, None, Some, if◌then◌else◌, is_some, nat_le, nat_lt}
 use Rattle.nichols_braid.specs.Braid.{BraidValue, IsBraid}
 use Rattle.nichols_braid.specs.Kernel.{is_in_kernel}
-use Rattle.nichols_braid.specs.End.{is_empty_degree}
+use Rattle.nichols_braid.specs.End.{is_empty_degree, most_degrees}
 use Rattle.nichols_graded.specs.declared.ends.End.{End}
 use Rattle.nichols_graded.specs.declared.ends.End.TheVariants.{Closed, Stopped}
 use Rattle.nichols_graded.specs.declared.ends.Stop.TheVariants.{DegreeLimit}
@@ -25,7 +25,7 @@ end_at braid limit m = if is_empty_degree is_in_kernel braid m then Some Closed 
 -- what holds between calls
 pub record IsGraded (g : GradedValue) : Type 0 where
   pub braid : IsBraid g.braid
-  pub most : g.limit ≤ 60
+  pub most : g.limit ≤ most_degrees
   pub within : g.last ≤ g.limit
   pub filled : AreFilledBelow g.braid g.last
   pub going : g.ended ≡ false → is_empty_degree is_in_kernel g.braid g.last ≡ false

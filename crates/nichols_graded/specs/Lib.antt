@@ -1,1 +1,2 @@
 pub mod Graded
+pub mod Laws

@@ -3,7 +3,7 @@
 ghost use Rattle.std.specs.Prelude.{◌≡◌, ◌≤◌, ◌<◌, ◌^◌, IfOk, OnOk, OnErr, false};
 ghost use Rattle.nichols_braid.specs.Kernel.{is_in_kernel};
 ghost use Rattle.nichols_braid.specs.Least.{basis, relations};
-ghost use Rattle.nichols_braid.specs.End.{dimension};
+ghost use Rattle.nichols_braid.specs.End.{dimension, most_degrees};
 ghost use Rattle.nichols_graded.specs.Graded.{started, step, advanced, end_at, IsGraded};
 
 use crate::ends::{Advance, End, Stop};
@@ -34,7 +34,7 @@ impl Model for Graded {
 impl Graded {
     /// The algebra of a braid with degree 0 finished; the degree limit is at most 60.
     pub fn start(alloc: Global, braid: Braid, degree_limit: u32) -> Result<Graded, AllocError>
-        requires { degree_limit ≤ 60 }
+        requires { degree_limit ≤ most_degrees }
         ensures { IfOk result (λ g. g ≡ started braid degree_limit) }
     {
         let _field = braid.field();

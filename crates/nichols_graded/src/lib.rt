@@ -3,6 +3,7 @@
 
 mod ends;
 mod graded;
+pub mod laws;
 
 pub use ends::{Advance, End, Stop};
 pub use graded::Graded;
