@@ -40,7 +40,7 @@ found_once p es k inside passes once =
     (λ earlier. let two = count_two p es first k earlier inside there.1 passes in absurd (omega arith))
     (λ late. let same : first ≡ k = omega arith in is ∙ ap Some same)
 
-into_found : (l : LayoutValue) → IsLayout l → (b a k : ℕ) → IsInto l.edges b a k → edge_into l.edges b a ≡ Some k
+pub into_found : (l : LayoutValue) → IsLayout l → (b a k : ℕ) → IsInto l.edges b a k → edge_into l.edges b a ≡ Some k
 into_found l rules b a k at =
     found_once (enters b a) l.edges k at.inside
     (and_from (eqb (edge_at l.edges k).upper b) (eqb (edge_at l.edges k).letter a) (eq-eqb (edge_at l.edges k).upper b at.upper) (eq-eqb (edge_at l.edges k).letter a at.letter))
@@ -59,7 +59,7 @@ edges_by_letter l rules k inside = (
 )
 
 -- and what is found is such an edge
-into_is : (es : List Edge) (b a k : ℕ) → edge_into es b a ≡ Some k → IsInto es b a k
+pub into_is : (es : List Edge) (b a k : ℕ) → edge_into es b a ≡ Some k → IsInto es b a k
 into_is es b a k is =
     let r = position-Some (enters b a) es k (record { lower = 0; letter = 0; upper = 0 }) is in
     record {
@@ -86,13 +86,13 @@ found_some : (at : Option ℕ) (test : ℕ → Bool) (k : ℕ) → at ≡ Some k
 found_some at test k is h = ap (λ o. some_edge o test) is ∙ h
 
 -- the tests over all edges, from the facts
-true_or : (a b : ℕ) (p : Bool) → (a ≡ b → p ≡ true) → (not (eqb a b) || p) ≡ true
+pub true_or : (a b : ℕ) (p : Bool) → (a ≡ b → p ≡ true) → (not (eqb a b) || p) ≡ true
 true_or a b p h =
     dite (ℕ_discrete a b)
     (λ e. ap (λ t. not t || p) (eq-eqb a b e) ∙ h e)
     (λ n. ap (λ t. not t || p) (ne_eqb a b n))
 
-true_nand : (a b : ℕ) (p : Bool) → (a ≡ b → p ≡ false) → not (eqb a b && p) ≡ true
+pub true_nand : (a b : ℕ) (p : Bool) → (a ≡ b → p ≡ false) → not (eqb a b && p) ≡ true
 true_nand a b p h =
     dite (ℕ_discrete a b)
     (λ e. ap (λ t. not (t && p)) (eq-eqb a b e) ∙ ap not (h e))

@@ -76,6 +76,7 @@ EventsKeepLaws = (es : List Edge) (event : Event) (m : Machine) → Laws es m �
 abbrev pub RunsMeetLaws : Type 0
 RunsMeetLaws = (l : LayoutValue) → IsLayout l → (events : List Event) → Laws l.edges (reached l events)
 
+-- this follows from the form of a state alone, in which a block has one stage, and says nothing of the events
 abbrev pub OneHolder : Type 0
 OneHolder = (l : LayoutValue) → IsLayout l → (events : List Event) (b v w : ℕ)
     → (reached l events).stage b ≡ Held v → (reached l events).stage b ≡ Held w → v ≡ w

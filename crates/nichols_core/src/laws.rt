@@ -27,7 +27,8 @@ pub fn every_run_meets_the_six_laws()
     ensures { RunsMeetLaws }
 {}
 
-/// At most one worker holds a block.
+/// At most one worker holds a block. This follows from the form of a state alone, in which a block has one
+/// stage.
 pub fn a_block_has_one_holder()
     ensures { OneHolder }
 {}

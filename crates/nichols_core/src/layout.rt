@@ -95,7 +95,7 @@ fn exit_place(edge: &Edge) -> u64
 }
 
 /// A number that rises with the upper block, and then with the letter.
-fn entry_place(edge: &Edge) -> u64
+pub(crate) fn entry_place(edge: &Edge) -> u64
     ensures { result ≡ entry_place edge.now }
 {
     u64::from(edge.upper) * 256 + u64::from(edge.letter)

@@ -1,7 +1,7 @@
 //! The machine in memory.
 
-ghost use Rattle.std.specs.Prelude.{◌≡◌, ℕ, ◌+◌, ◌*◌, ◌^◌, ◌<◌, ◌≤◌, false, length, slice_index_or, nat_lt, IfOk};
-ghost use Rattle.nichols_core.specs.Layout.{edge_at, edge_into, edge_out};
+ghost use Rattle.std.specs.Prelude.{◌≡◌, ℕ, ◌+◌, ◌*◌, ◌^◌, ◌<◌, ◌≤◌, ◌↔◌, false, length, slice_index_or, nat_lt, IfOk};
+ghost use Rattle.nichols_core.specs.Layout.{edge_at, edge_into, edge_out, entry_place};
 ghost use Rattle.nichols_core.specs.Machine.{can, after, none_picked, all_picked, all_laid, is_held_by, is_resumed_by, is_published, taken, resumed};
 ghost use Rattle.nichols_core.specs.Laws.{Laws};
 ghost use Rattle.nichols_core.specs.Runs.{start};
@@ -9,7 +9,7 @@ ghost use Rattle.nichols_core.specs.States.{machine_of, mark_at, stage_at, IsWit
 ghost use Rattle.nichols_core.specs.declared.event.Event.TheVariants.{Take, Ask, Pick, Lay, Publish, Release};
 
 use crate::event::{Event, Stage};
-use crate::layout::{Edge, Layout};
+use crate::layout::{Edge, Layout, entry_place};
 use std::alloc::{AllocError, Global};
 use std::marker::Model;
 
@@ -146,11 +146,11 @@ impl State {
         requires in_range { IsWithin self.old worker block }
         ensures { Applies (Ask worker block letter) self.old self.new result }
     {
-        let Some(edge) = edge_into(&layout.edges, block, letter) else {
+        let Some(edge) = edge_into(layout, block, letter) else {
             return false;
         };
         if !is_held_by(stage_at(&self.stages, block), worker)
-            || !none_picked(&layout.edges, &self.picked, block)
+            || !none_picked(layout, &self.picked, block)
         {
             return false;
         }
@@ -166,7 +166,7 @@ impl State {
         requires in_range { IsWithin self.old worker block }
         ensures { Applies (Pick worker block letter) self.old self.new result }
     {
-        let Some(edge) = edge_into(&layout.edges, block, letter) else {
+        let Some(edge) = edge_into(layout, block, letter) else {
             return false;
         };
         if !is_held_by(stage_at(&self.stages, block), worker) {
@@ -189,7 +189,7 @@ impl State {
             return false;
         };
         if !is_held_by(stage_at(&self.stages, block), worker)
-            || !all_picked(&layout.edges, &self.picked, block)
+            || !all_picked(layout, &self.picked, block)
         {
             return false;
         }
@@ -206,7 +206,7 @@ impl State {
         ensures { Applies (Publish worker block) self.old self.new result }
     {
         if !is_held_by(stage_at(&self.stages, block), worker)
-            || !all_picked(&layout.edges, &self.picked, block)
+            || !all_picked(layout, &self.picked, block)
             || !all_laid(&layout.edges, &self.laid, block)
         {
             return false;
@@ -230,13 +230,42 @@ impl State {
     }
 }
 
-/// The number of the edge of that letter into the block.
-fn edge_into(edges: &[Edge], block: u32, letter: u8) -> Option<usize>
-    ensures { result ≡ edge_into edges.now block letter }
+/// The numbers of the edges into the block: the first of them, and the first one past them.
+fn entries_of(layout: &Layout, block: u32) -> (usize, usize)
+    ensures bound { result.1 ≤ length layout.now.edges }
+    ensures entries { (k : ℕ) → k < length layout.now.edges → ((edge_at layout.now.edges k).upper ≡ block) ↔ ((result.0 ≤ k) × (k < result.1)) }
 {
-    edges
-        .iter()
-        .position(|edge| edge.upper == block && edge.letter == letter)
+    let first = layout.edges.partition_point(|edge| edge.upper < block);
+    let end = layout.edges.partition_point(|edge| edge.upper <= block);
+    (first, end)
+}
+
+/// How many edges stand before the place of the edge of that letter into the block.
+fn entries_before(layout: &Layout, block: u32, letter: u8) -> usize
+    ensures bound { result ≤ length layout.now.edges }
+    ensures before { (k : ℕ) → k < result → entry_place (edge_at layout.now.edges k) < block * 256 + letter }
+    ensures rest { (k : ℕ) → result ≤ k → k < length layout.now.edges → block * 256 + letter ≤ entry_place (edge_at layout.now.edges k) }
+{
+    let place = u64::from(block) * 256 + u64::from(letter);
+    layout
+        .edges
+        .partition_point(|edge| entry_place(edge) < place)
+}
+
+/// The number of the edge of that letter into the block.
+fn edge_into(layout: &Layout, block: u32, letter: u8) -> Option<usize>
+    ensures { result ≡ edge_into layout.now.edges block letter }
+{
+    let number = entries_before(layout, block, letter);
+    if number == layout.edges.len() {
+        return None;
+    }
+    let edge = layout.edges[number];
+    if edge.upper == block && edge.letter == letter {
+        Some(number)
+    } else {
+        None
+    }
 }
 
 /// The number of the edge of that letter out of the block.
@@ -257,12 +286,13 @@ fn lower_of(edges: &[Edge], edge: usize) -> u32
 }
 
 /// Whether no edge into the block is picked.
-fn none_picked(edges: &[Edge], picked: &[bool], block: u32) -> bool
-    requires { length picked.now ≡ length edges.now }
-    ensures { result ≡ none_picked edges.now (mark_at picked.now) block }
+fn none_picked(layout: &Layout, picked: &[bool], block: u32) -> bool
+    requires { length picked.now ≡ length layout.now.edges }
+    ensures { result ≡ none_picked layout.now.edges (mark_at picked.now) block }
 {
-    for i in 0..edges.len() {
-        if edges[i].upper == block && picked[i] {
+    let (first, end) = entries_of(layout, block);
+    for i in first..end {
+        if picked[i] {
             return false;
         }
     }
@@ -270,12 +300,13 @@ fn none_picked(edges: &[Edge], picked: &[bool], block: u32) -> bool
 }
 
 /// Whether all edges into the block are picked.
-fn all_picked(edges: &[Edge], picked: &[bool], block: u32) -> bool
-    requires { length picked.now ≡ length edges.now }
-    ensures { result ≡ all_picked edges.now (mark_at picked.now) block }
+fn all_picked(layout: &Layout, picked: &[bool], block: u32) -> bool
+    requires { length picked.now ≡ length layout.now.edges }
+    ensures { result ≡ all_picked layout.now.edges (mark_at picked.now) block }
 {
-    for i in 0..edges.len() {
-        if edges[i].upper == block && !picked[i] {
+    let (first, end) = entries_of(layout, block);
+    for i in first..end {
+        if !picked[i] {
             return false;
         }
     }

@@ -1,5 +1,6 @@
 ghost use Rattle.std.specs.Prelude.{◌≡◌, ◌^◌, ◌<◌, IfOk, IfSome, length};
 ghost use Rattle.nichols_core.specs.States.{IsInRange};
+ghost use Rattle.nichols_core.specs.declared.event.Event.TheVariants.{Take, Ask, Pick, Lay, Publish, Release};
 
 use crate::{Edge, Event, Layout, Stage, State};
 use std::alloc::{AllocError, Global};
@@ -93,6 +94,54 @@ fn two_blocks(alloc: Global) -> Result<Option<Layout>, AllocError>
     Ok(Layout::new(degrees, edges))
 }
 
+fn take(worker: u32, block: u32) -> Event
+    ensures { result ≡ Take worker block }
+{
+    Event::Take { worker, block }
+}
+
+fn ask(worker: u32, block: u32, letter: u8) -> Event
+    ensures { result ≡ Ask worker block letter }
+{
+    Event::Ask {
+        worker,
+        block,
+        letter,
+    }
+}
+
+fn pick(worker: u32, block: u32, letter: u8) -> Event
+    ensures { result ≡ Pick worker block letter }
+{
+    Event::Pick {
+        worker,
+        block,
+        letter,
+    }
+}
+
+fn lay(worker: u32, block: u32, letter: u8) -> Event
+    ensures { result ≡ Lay worker block letter }
+{
+    Event::Lay {
+        worker,
+        block,
+        letter,
+    }
+}
+
+fn publish(worker: u32, block: u32) -> Event
+    ensures { result ≡ Publish worker block }
+{
+    Event::Publish { worker, block }
+}
+
+fn release(worker: u32, block: u32) -> Event
+    ensures { result ≡ Release worker block }
+{
+    Event::Release { worker, block }
+}
+
 /// Applies the event, and leaves to the run what the contract says of the state.
 fn step(state: &mut State, layout: &Layout, event: Event) -> bool
     requires layout { layout.now ≡ state.old.layout }
@@ -109,73 +158,15 @@ fn a_parked_block_is_resumed(rt: HostRuntime) -> Result<(), Fail> {
         panic!(rt; "no layout");
     };
     let mut state = State::start(rt.alloc(), &layout, 2)?;
-    assert!(rt;
-        state.apply(
-            &layout,
-            Event::Take {
-                worker: 0,
-                block: 1
-            }
-        )
-    );
-    assert!(rt;
-        state.apply(
-            &layout,
-            Event::Ask {
-                worker: 0,
-                block: 1,
-                letter: 1
-            }
-        )
-    );
+    assert!(rt; step(&mut state, &layout, take(0, 1)));
+    assert!(rt; step(&mut state, &layout, ask(0, 1, 1)));
     assert!(rt; state.stage(1) == Stage::Parked(0));
-    assert!(rt;
-        state.apply(
-            &layout,
-            Event::Take {
-                worker: 1,
-                block: 0
-            }
-        )
-    );
-    assert!(rt;
-        state.apply(
-            &layout,
-            Event::Lay {
-                worker: 1,
-                block: 0,
-                letter: 1
-            }
-        )
-    );
-    assert!(rt;
-        state.apply(
-            &layout,
-            Event::Publish {
-                worker: 1,
-                block: 0
-            }
-        )
-    );
-    assert!(rt;
-        state.apply(
-            &layout,
-            Event::Release {
-                worker: 1,
-                block: 1
-            }
-        )
-    );
+    assert!(rt; step(&mut state, &layout, take(1, 0)));
+    assert!(rt; step(&mut state, &layout, lay(1, 0, 1)));
+    assert!(rt; step(&mut state, &layout, publish(1, 0)));
+    assert!(rt; step(&mut state, &layout, release(1, 1)));
     assert!(rt; state.stage(1) == Stage::Ready && state.owes(1, 1) && !state.owes(0, 1));
-    assert!(rt;
-        !state.apply(
-            &layout,
-            Event::Publish {
-                worker: 1,
-                block: 0
-            }
-        )
-    );
+    assert!(rt; !step(&mut state, &layout, publish(1, 0)));
     Ok(())
 }
 
@@ -185,101 +176,17 @@ fn one_worker_publishes_both(rt: HostRuntime) -> Result<(), Fail> {
         panic!(rt; "no layout");
     };
     let mut state = State::start(rt.alloc(), &layout, 1)?;
-    assert!(rt;
-        state.apply(
-            &layout,
-            Event::Take {
-                worker: 0,
-                block: 1
-            }
-        )
-    );
-    assert!(rt;
-        state.apply(
-            &layout,
-            Event::Ask {
-                worker: 0,
-                block: 1,
-                letter: 1
-            }
-        )
-    );
-    assert!(rt;
-        state.apply(
-            &layout,
-            Event::Take {
-                worker: 0,
-                block: 0
-            }
-        )
-    );
-    assert!(rt;
-        state.apply(
-            &layout,
-            Event::Lay {
-                worker: 0,
-                block: 0,
-                letter: 1
-            }
-        )
-    );
-    assert!(rt;
-        state.apply(
-            &layout,
-            Event::Publish {
-                worker: 0,
-                block: 0
-            }
-        )
-    );
+    assert!(rt; step(&mut state, &layout, take(0, 1)));
+    assert!(rt; step(&mut state, &layout, ask(0, 1, 1)));
+    assert!(rt; step(&mut state, &layout, take(0, 0)));
+    assert!(rt; step(&mut state, &layout, lay(0, 0, 1)));
+    assert!(rt; step(&mut state, &layout, publish(0, 0)));
     assert!(rt; state.stage(1) == Stage::Resumed(0));
-    assert!(rt;
-        state.apply(
-            &layout,
-            Event::Release {
-                worker: 0,
-                block: 1
-            }
-        )
-    );
-    assert!(rt;
-        state.apply(
-            &layout,
-            Event::Take {
-                worker: 0,
-                block: 1
-            }
-        )
-    );
-    assert!(rt;
-        state.apply(
-            &layout,
-            Event::Ask {
-                worker: 0,
-                block: 1,
-                letter: 1
-            }
-        )
-    );
-    assert!(rt;
-        state.apply(
-            &layout,
-            Event::Pick {
-                worker: 0,
-                block: 1,
-                letter: 1
-            }
-        )
-    );
-    assert!(rt;
-        state.apply(
-            &layout,
-            Event::Publish {
-                worker: 0,
-                block: 1
-            }
-        )
-    );
+    assert!(rt; step(&mut state, &layout, release(0, 1)));
+    assert!(rt; step(&mut state, &layout, take(0, 1)));
+    assert!(rt; step(&mut state, &layout, ask(0, 1, 1)));
+    assert!(rt; step(&mut state, &layout, pick(0, 1, 1)));
+    assert!(rt; step(&mut state, &layout, publish(0, 1)));
     assert!(rt; state.stage(0) == Stage::Published && state.stage(1) == Stage::Published);
     assert!(rt; !state.owes(0, 0) && !state.owes(0, 1));
     assert!(rt; layout.edges.len() == 1);

@@ -1,16 +1,16 @@
-use Rattle.std.proofs.Common.{◌≡◌, ℕ, Bool, false, not, eqb, ◌&&◌, length, sym, arith, rules}
-use Rattle.nichols_core.specs.Layout.{edge_at}
+use Rattle.std.proofs.Common.{sym, arith}
 use Rattle.nichols_core.specs.States.{mark_at}
-use Rattle.nichols_core.proofs.Stages.{every_false, true_every}
+use Rattle.nichols_core.proofs.Entries.{none_picked_within, one_picked_within}
 use Rattle.nichols_core.proofs.state.none_picked.Goals as goal
 
 pub returns-then-picked-i : goal.returns-then-picked-i
 returns-then-picked-i c =
-    let p : ℕ → Bool = λ k. not (eqb (edge_at c.args.edges.now k).upper c.args.block && mark_at c.args.picked.now k) in
-    let fails : p c.loop-i.i ≡ false = search rules in
-    sym (every_false (length c.args.edges.now) p c.loop-i.i (omega arith) fails)
+    let at = c.entries_of-first.result in
+    sym (one_picked_within c.args.layout.now.edges c.args.block at.0 at.1 c.entries_of-first.ensures.bound c.entries_of-first.ensures.entries (mark_at c.args.picked.now)
+    c.loop-i.i c.loop-i.auto.i c.loop-i-test.true c.if-picked-i.true)
 
 pub returns : goal.returns
 returns c =
-    let p : ℕ → Bool = λ k. not (eqb (edge_at c.args.edges.now k).upper c.args.block && mark_at c.args.picked.now k) in
-    sym (true_every (length c.args.edges.now) p (λ k inside. c.loop-i.invariant k (omega arith)))
+    let at = c.entries_of-first.result in
+    sym (none_picked_within c.args.layout.now.edges c.args.block at.0 at.1 c.entries_of-first.ensures.bound c.entries_of-first.ensures.entries (mark_at c.args.picked.now)
+    (λ k late early. c.loop-i.invariant k late (omega arith)))

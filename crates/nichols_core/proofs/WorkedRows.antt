@@ -1,4 +1,4 @@
--- The machine's definitions on two blocks with one edge of letter 1, computed.
+-- Rows that the definitions compute: runs of the machine on two blocks with one edge of letter 1. Nothing cites them.
 use Rattle.std.proofs.Common.{◌≡◌, Bool, true, false, List, [], ◌∷◌, refl}
 use Rattle.nichols_core.specs.declared.layout.Edge.{Edge}
 use Rattle.nichols_core.specs.declared.event.Event.{Event}
