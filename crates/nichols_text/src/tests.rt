@@ -18,7 +18,7 @@ fn word_of(letters: &[u8]) -> Word {
 
 /// `100*1.2 + 2*2.3`.
 fn form(alloc: Global, field: Field) -> Result<Comb, AllocError> {
-    let terms = [
+    let mut terms = [
         Term {
             word: word_of(&[1, 2]),
             coefficient: field.from_i64(-1),
@@ -28,7 +28,7 @@ fn form(alloc: Global, field: Field) -> Result<Comb, AllocError> {
             coefficient: field.from_i64(2),
         },
     ];
-    Comb::sum_of(alloc, field, &terms)
+    Comb::sum_of(alloc, field, &mut terms)
 }
 
 #[test]
@@ -89,5 +89,9 @@ fn single_lines(rt: HostRuntime) -> Result<(), Fail> {
     assert!(rt; memory_line(Some(60)).bytes() == b"memory last 60\n".as_slice());
     assert!(rt; read_fault_line() == b"read fault\n".as_slice());
     assert!(rt; not_built_line() == b"not built\n".as_slice());
+    assert!(rt;
+        usage_line()
+            == b"usage: nichols algebra or reduce or symmetrize or points K [--degree N] [--rows N] [--workers N] [--window N] [--brief]\n".as_slice()
+    );
     Ok(())
 }

@@ -1,8 +1,9 @@
 -- The ends of a run, by its document and by what was written.
-use Rattle.std.proofs.Common.{◌≡◌, ◌≢◌, ℕ, ◌<◌, ◌≤◌, Bool, true, false, cond, List, [], ◌∷◌, ◌++◌, length, refl, sym, ◌∙◌, ap, arith, subst, Some, None, Ok, Err, ◌⊎◌, inl, inr, nat_lt, nat_le, append-nil}
+use Rattle.std.proofs.Common.{◌≡◌, ◌≢◌, ℕ, ◌<◌, ◌≤◌, Bool, true, false, cond, List, [], ◌∷◌, ◌++◌, length, ◌+◌, replicate, refl, sym, ◌∙◌, ap, arith, subst, Some, None, Ok, Err, ◌⊎◌, inl, inr, nat_lt, nat_le, append-nil}
 use Rattle.std.specs.Prelude.{Option, Result, codes, ◌&&◌}
 use Rattle.std.specs.Str.{bytes_eq}
 use Rattle.std.proofs.lemmas.Bool.Decides.{nat_tests}
+use Rattle.std.proofs.lemmas.List.{length-replicate}
 use Rattle.std.specs.Io.KnownBytes.{Appends, Consumes, IsAtEnd}
 use Rattle.nichols_io.specs.Bytes.{AppendsProperPrefix, IsLonger}
 use Rattle.nichols_io.specs.Counts.{Rose}
@@ -14,7 +15,7 @@ use Rattle.nichols_input.specs.declared.faults.InputFault.{InputFault}
 use Rattle.nichols_input.specs.declared.faults.InputFault.TheVariants.{NotDistributive, Unbuilt, Memory}
 use Rattle.nichols_text.specs.Lines.{usage_text, read_fault_text, not_built_text, not_distributive_text, memory_text}
 use Rattle.nichols_top.specs.Report.{Report, line_report, algebra_due, pieces_due, braid_due, document_due, document_limit, due, due_under, degree_limit, short_number, within_degrees}
-use Rattle.nichols_top.specs.Ends.{text_of, EndsAs, whole, read_fault, write_fault, memory, all_pieces, fault_line}
+use Rattle.nichols_top.specs.Ends.{text_of, IsOwed, EndsAs, whole, read_fault, write_fault, memory, all_pieces, fault_line, some_pieces}
 use Rattle.nichols_top.specs.Output.{PutsLine, put, cut, Breaks}
 use Rattle.nichols_top.proofs.Put.{HasPut, put_none, ends_line, ends_broken}
 
@@ -86,6 +87,10 @@ read_whole before after document items e h end = at after (subst (λ o. Consumes
 pub longer : (before : Option (List ℕ)) (document : List ℕ) → before ≡ Some document → IsLonger before 1048576 → 1048576 < length document
 longer before document e h = subst (λ o. IsLonger o 1048576) e h
 
+-- a document longer than a limit
+pub longer_document : (limit : ℕ) → (document : List ℕ) × (limit < length document)
+longer_document limit = (replicate (limit + 1) 0, omega (arith, length-replicate {A = ℕ} (limit + 1) 0))
+
 -- ---- causes
 
 -- the status is that of the report, or the sink failed, or there was no memory
@@ -95,10 +100,15 @@ ends_cause report before after kr _ (read_fault none p) = absurd none
 ends_cause report before after kr _ (write_fault owed o rose p) = inr (inl (refl, rose))
 ends_cause report before after kr _ (memory k less p) = inr (inr refl)
 
+owed_with_source : (report : Report) (sr : Type 0) (owed : List ℕ) → IsOwed report ⊥ owed → IsOwed report sr owed
+owed_with_source report sr _ all_pieces = all_pieces
+owed_with_source report sr _ (fault_line none) = absurd none
+owed_with_source report sr _ (some_pieces k less) = some_pieces k less
+
 pub with_source : (report : Report) (before after : Option (List ℕ)) (sr kr : Type 0) (result : ℕ) → EndsAs report before after ⊥ kr result → EndsAs report before after sr kr result
 with_source report before after sr kr _ (whole p) = whole p
 with_source report before after sr kr _ (read_fault none p) = absurd none
-with_source report before after sr kr _ (write_fault owed o rose p) = write_fault owed o rose p
+with_source report before after sr kr _ (write_fault owed o rose p) = write_fault owed (owed_with_source report sr owed o) rose p
 with_source report before after sr kr _ (memory k less p) = memory k less p
 
 -- the statuses of a document's report
@@ -183,7 +193,7 @@ long_ends words document limit before now sr kr result e long h = subst (λ r. E
 
 pub fault_ends : (report : Report) (before now : Option (List ℕ)) (sr kr : Type 0) (result : ℕ) → sr → PutsLine before now kr read_fault_text 4 result → EndsAs report before now sr kr result
 fault_ends report before now sr kr _ rose (put p) = read_fault rose p
-fault_ends report before now sr kr _ rose (cut sink_rose p) = write_fault read_fault_text fault_line sink_rose p
+fault_ends report before now sr kr _ rose (cut sink_rose p) = write_fault read_fault_text (fault_line rose) sink_rose p
 
 pub read_ends : (words : List (List ℕ)) (document items : List ℕ) (limit : ℕ) (before now : Option (List ℕ)) (sr kr : Type 0) (result : ℕ) → degree_limit words ≡ Some limit → document ≡ items → length items ≤ 1048576 →
     EndsAs (braid_due limit (braid_in items)) before now ⊥ kr result → EndsAs (due words document) before now sr kr result

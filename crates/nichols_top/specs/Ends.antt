@@ -20,15 +20,15 @@ last_degree (suc (suc m)) = Some m
 unfoldable pub memory_due : Report → ℕ → List ℕ
 memory_due report k = text_of (take k report.pieces) ++ memory_text (last_degree k)
 
--- a text that a run may owe its sink
-pub data IsOwed (report : Report) : List ℕ → Type 0 where
-  all_pieces : IsOwed report (text_of report.pieces)
-  fault_line : IsOwed report read_fault_text
-  some_pieces : (k : ℕ) → k < length report.pieces → IsOwed report (memory_due report k)
+-- a text that a run may owe its sink: the report, the line of a source that failed, or what is due for want of memory
+pub data IsOwed (report : Report) (source_rose : Type 0) : List ℕ → Type 0 where
+  all_pieces : IsOwed report source_rose (text_of report.pieces)
+  fault_line : source_rose → IsOwed report source_rose read_fault_text
+  some_pieces : (k : ℕ) → k < length report.pieces → IsOwed report source_rose (memory_due report k)
 
 -- the status, with what the sink took in the call, and the rise of a count that it needs
 pub data EndsAs (report : Report) (before after : Option (List ℕ)) (source_rose sink_rose : Type 0) : ℕ → Type 0 where
   whole : Appends before after (text_of report.pieces) → EndsAs report before after source_rose sink_rose report.status
   read_fault : source_rose → Appends before after read_fault_text → EndsAs report before after source_rose sink_rose 4
-  write_fault : (owed : List ℕ) → IsOwed report owed → sink_rose → AppendsProperPrefix before after owed → EndsAs report before after source_rose sink_rose 5
+  write_fault : (owed : List ℕ) → IsOwed report source_rose owed → sink_rose → AppendsProperPrefix before after owed → EndsAs report before after source_rose sink_rose 5
   memory : (k : ℕ) → k < length report.pieces → Appends before after (memory_due report k) → EndsAs report before after source_rose sink_rose 6

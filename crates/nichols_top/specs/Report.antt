@@ -6,7 +6,7 @@ use Rattle.std.specs.Char.{is_ascii_digit}
 use Rattle.nichols_braid.specs.Braid.{BraidValue}
 use Rattle.nichols_braid.specs.Kernel.{is_in_kernel}
 use Rattle.nichols_braid.specs.Least.{basis, relations}
-use Rattle.nichols_braid.specs.End.{dimension, finished, is_closed}
+use Rattle.nichols_braid.specs.End.{dimension, finished, is_closed, most_degrees}
 use Rattle.nichols_input.specs.Document.{braid_in}
 use Rattle.nichols_input.specs.declared.faults.InputFault.{InputFault}
 use Rattle.nichols_input.specs.declared.faults.InputFault.TheVariants.{NotDistributive, Unbuilt, Memory}
@@ -66,10 +66,6 @@ is_short_number text = nat_le 1 (length text) && nat_le (length text) 9 && list_
 abbrev pub short_number : List ℕ → Option ℕ
 short_number text = if is_short_number text then Some (digits_value text) else None
 
--- the greatest degree limit
-abbrev pub most_degrees : ℕ
-most_degrees = 60
-
 -- a degree limit, where the number is one
 abbrev pub within_degrees : Option ℕ → Option ℕ
 within_degrees None = None
@@ -85,7 +81,7 @@ degree_limit _ = None
 abbrev pub document_limit : ℕ
 document_limit = 1048576
 
--- the report of a document's braid, or of its refusal
+-- the report of a document's braid, or of its refusal; `braid_in` never gives `Memory`, so the last equation is never used
 abbrev pub braid_due : ℕ → Result BraidValue InputFault → Report
 braid_due limit (Ok braid) = algebra_due braid limit
 braid_due limit (Err (NotDistributive i j k left right)) = line_report (not_distributive_text i j k left right) 2

@@ -5,6 +5,7 @@ mod command;
 mod degrees;
 mod output;
 mod report;
+mod statuses;
 mod top;
 
 pub use top::run;

@@ -6,15 +6,10 @@ ghost use Rattle.nichols_io.specs.Counts.{Rose};
 ghost use Rattle.nichols_text.specs.Lines.{memory_text};
 ghost use Rattle.nichols_top.specs.Output.{PutsLine, Breaks};
 
+use crate::statuses::{MEMORY, WRITE_FAULT};
 use nichols_io::{Sink, put_all};
 use nichols_text::memory_line;
 use std::alloc::AllocError;
-
-/// The status where the sink failed.
-pub(crate) const WRITE_FAULT: u8 = 5;
-
-/// The status for want of memory.
-pub(crate) const MEMORY: u8 = 6;
 
 /// Writes one line, and answers the status where it was taken, or else that of a write fault.
 pub(crate) fn put_line<K: Sink>(sink: &mut K, line: &[u8], status: u8) -> u8

@@ -2,13 +2,15 @@
 
 ghost use Rattle.std.specs.Prelude.{◌≡◌, ◌≤◌, ◌<◌, ◌-◌, ◌+◌, ◌^◌, ℕ, List, sum};
 ghost use Rattle.nichols_io.specs.Counts.{Rose};
+ghost use Rattle.nichols_braid.specs.End.{most_degrees};
+ghost use Rattle.nichols_text.specs.Pieces.{end_piece};
 ghost use Rattle.nichols_top.specs.Report.{algebra_due};
 ghost use Rattle.nichols_top.specs.Ends.{EndsAs, last_degree};
 ghost use Rattle.nichols_top.specs.Output.{PutsEnd};
-ghost use Rattle.nichols_text.specs.Pieces.{end_piece};
 
 use crate::degrees::reach;
 use crate::output::{put_memory, put_piece};
+use crate::statuses::{CLOSED, STOPPED};
 use nichols_braid::Braid;
 use nichols_graded::Graded;
 use nichols_io::Sink;
@@ -20,7 +22,7 @@ const ROWS_LIMIT: u32 = 1024;
 
 /// Writes the report of a braid's algebra up to a degree limit: the header, each degree once it is done, and the end.
 pub(crate) fn put_report<K: Sink>(alloc: Global, braid: Braid, limit: u32, sink: &mut K) -> u8
-    requires { limit ≤ 60 }
+    requires { limit ≤ most_degrees }
     ensures ends { EndsAs (algebra_due braid limit) (K.taken sink.old) (K.taken sink.new) ⊥ (Rose (K.faults sink.old) (K.faults sink.new)) result }
     ensures count { K.faults sink.old ≤ K.faults sink.new }
 {
@@ -44,11 +46,18 @@ pub(crate) fn put_report<K: Sink>(alloc: Global, braid: Braid, limit: u32, sink:
         }
         if degree.dimension == 0 {
             let line = closed(m, dimensions.as_slice());
-            return put_end(alloc, sink, &line, dimensions.as_slice(), Some(m), 0);
+            return put_end(alloc, sink, &line, dimensions.as_slice(), Some(m), CLOSED);
         }
     }
     let line = EndLine::DegreeLimit { last: limit };
-    put_end(alloc, sink, &line, dimensions.as_slice(), Some(limit), 3)
+    put_end(
+        alloc,
+        sink,
+        &line,
+        dimensions.as_slice(),
+        Some(limit),
+        STOPPED,
+    )
 }
 
 /// The degree before m, which is the last one printed while m is made.

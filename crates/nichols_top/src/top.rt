@@ -2,13 +2,15 @@
 
 ghost use Rattle.std.specs.Prelude.{◌≡◌, ◌⊎◌, ◌≤◌, ℕ, List, map, string_bytes, Some, None, IfOk};
 ghost use Rattle.nichols_io.specs.Counts.{Rose};
-ghost use Rattle.nichols_top.specs.Report.{due, degree_limit, braid_due, line_report};
+ghost use Rattle.nichols_braid.specs.End.{most_degrees};
 ghost use Rattle.nichols_input.specs.Document.{braid_in};
+ghost use Rattle.nichols_top.specs.Report.{due, degree_limit, braid_due, line_report};
 ghost use Rattle.nichols_top.specs.Ends.{EndsAs};
 
 use crate::command::degree_limit;
 use crate::output::{put_line, put_memory, put_piece};
 use crate::report::put_report;
+use crate::statuses::{NOT_BUILT, READ_FAULT, REFUSED, USAGE};
 use nichols_input::{InputFault, read_braid};
 use nichols_io::{ReadFault, Sink, Source, read_all};
 use nichols_text::{not_built_line, not_distributive_text, read_fault_line, usage_line};
@@ -37,6 +39,10 @@ pub fn run<R: Threads + Sync, S: Source, K: Sink>(
         EndsAs (due (map string_bytes words.now) document) (K.taken sink.old) (K.taken sink.new)
         (Rose (S.faults source.old) (S.faults source.new)) (Rose (K.faults sink.old) (K.faults sink.new)) result }
 
+    // For every source: what was written is the report of some document, or the stated part of it.
+    ensures some_report { (document : List ℕ) × EndsAs (due (map string_bytes words.now) document) (K.taken sink.old) (K.taken sink.new)
+        (Rose (S.faults source.old) (S.faults source.new)) (Rose (K.faults sink.old) (K.faults sink.new)) result }
+
     // For every source and sink.
     ensures usage { degree_limit (map string_bytes words.now) ≡ None → (result ≡ 1) ⊎ (result ≡ 5) }
     ensures usage_only { result ≡ 1 → degree_limit (map string_bytes words.now) ≡ None }
@@ -45,19 +51,19 @@ pub fn run<R: Threads + Sync, S: Source, K: Sink>(
     ensures statuses { result ≤ 7 }
 {
     let Some(limit) = degree_limit(words) else {
-        return put_line(sink, usage_line(), 1);
+        return put_line(sink, usage_line(), USAGE);
     };
     match read_all(alloc, source, DOCUMENT_LIMIT) {
         Ok(document) => answer(alloc, limit, document.as_slice(), sink),
-        Err(ReadFault::TooLong) => put_line(sink, not_built_line(), 7),
-        Err(ReadFault::Failed) => put_line(sink, read_fault_line(), 4),
+        Err(ReadFault::TooLong) => put_line(sink, not_built_line(), NOT_BUILT),
+        Err(ReadFault::Failed) => put_line(sink, read_fault_line(), READ_FAULT),
         Err(ReadFault::Memory) => put_memory(sink, None),
     }
 }
 
 /// Writes the report of a document, or the line of its refusal, and answers the status.
 fn answer<K: Sink>(alloc: Global, limit: u32, document: &[u8], sink: &mut K) -> u8
-    requires { limit ≤ 60 }
+    requires { limit ≤ most_degrees }
     ensures { EndsAs (braid_due limit (braid_in document.now)) (K.taken sink.old) (K.taken sink.new) ⊥ (Rose (K.faults sink.old) (K.faults sink.new)) result }
 {
     match read_braid(alloc, document) {
@@ -66,7 +72,7 @@ fn answer<K: Sink>(alloc: Global, limit: u32, document: &[u8], sink: &mut K) -> 
             let line = not_distributive_text(alloc, i, j, k, left, right);
             put_refusal(sink, line)
         }
-        Err(InputFault::Unbuilt) => put_line(sink, not_built_line(), 7),
+        Err(InputFault::Unbuilt) => put_line(sink, not_built_line(), NOT_BUILT),
         Err(InputFault::Memory) => put_memory(sink, None),
     }
 }
@@ -77,7 +83,7 @@ fn put_refusal<K: Sink>(sink: &mut K, line: Result<Vec<u8>, AllocError>) -> u8
         EndsAs (line_report text 2) (K.taken sink.old) (K.taken sink.new) ⊥ (Rose (K.faults sink.old) (K.faults sink.new)) result }
 {
     match put_piece(sink, line, None) {
-        Ok(()) => 2,
+        Ok(()) => REFUSED,
         Err(status) => status,
     }
 }
