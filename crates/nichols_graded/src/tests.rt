@@ -125,7 +125,11 @@ fn degrees_of_the_plain_program(rt: HostRuntime) -> Result<(), Fail> {
         (two_letters(alloc)?, 6),
     ];
     for (braid, degrees) in rows {
-        assert!(rt; are_plain(alloc, braid, degrees)?);
+        let letters = braid.letters();
+        assert!(rt;
+            are_plain(alloc, braid, degrees)?,
+            "{degrees} degrees of {letters} letters"
+        );
     }
     Ok(())
 }

@@ -15,7 +15,7 @@ use Rattle.nichols_braid.specs.Rearrangement.{IsRearrangement}
 use Rattle.nichols_lift.specs.ClosedForm.{closed_form}
 use Rattle.nichols_lift.specs.Reading.{IsReading, HasOneReading}
 
--- the list that always takes the least place with a greater entry on its left is descending
+-- the list that always takes the least place whose entry is greater than the next one is descending
 abbrev pub LeastPlacesDescend : Type 0
 LeastPlacesDescend = (ends : List ℕ) → IsDescending ends (bubble ends)
 

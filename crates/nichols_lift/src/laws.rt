@@ -4,7 +4,8 @@
 
 ghost use Rattle.nichols_lift.specs.Laws.{LeastPlacesDescend, ReducedListsAgree, SymmetrizerFactors, KernelByDerivations, KernelIsRightIdeal, ReadingsAgree, PrefixesAreLeast, LeastWordsAreCandidates, EmptyDegreesStayEmpty};
 
-/// The list of the lift is descending: taking the least place with a greater entry on its left, again and again, sorts the end places.
+/// The list of the lift is descending: exchanging the end places at the least place whose entry is greater than the next one,
+/// again and again, sorts them.
 #[tactic(auto, using(crate::proofs::Bubble::bubble_descends))]
 pub fn least_places_descend()
     ensures { LeastPlacesDescend }

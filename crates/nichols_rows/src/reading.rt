@@ -1,4 +1,4 @@
-//! What the places of the rows of words say: which words are least, and the combinations that the others are.
+//! What the places of the rows of words say: which words have independent rows, and the combinations that the others are.
 
 ghost use Rattle.std.specs.Prelude.{◌≡◌, ◌++◌, ◌∷◌, IfOk, OnOk, [], length};
 ghost use Rattle.std.specs.List.{AllByRecursion};

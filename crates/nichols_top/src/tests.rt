@@ -244,8 +244,12 @@ fn faults_are_told(rt: HostRuntime) -> Result<(), Fail> {
             most: 4096,
         };
         let (written, ended) = ran(&rt, alloc, given)?;
-        assert_eq!(rt; written.as_slice(), text.as_bytes(), "of {document}");
-        assert_eq!(rt; ended, status, "of {document}");
+        assert_eq!(rt;
+            written.as_slice(),
+            text.as_bytes(),
+            "{reads:?} {writes:?} of {document}"
+        );
+        assert_eq!(rt; ended, status, "{reads:?} {writes:?} of {document}");
     }
     Ok(())
 }
@@ -253,9 +257,9 @@ fn faults_are_told(rt: HostRuntime) -> Result<(), Fail> {
 #[test]
 fn the_longest_document_is_read(rt: HostRuntime) -> Result<(), Fail> {
     let alloc = rt.alloc();
-    let header =
+    let report =
         "nichols p 101 letters 3 degree 0 rows 1024\ndegree 0 dimension 1\nbasis e\nstopped degree limit last 0\nhilbert 1\n";
-    for (length, text, status) in [(1_048_576, header, 3), (1_048_577, "not built\n", 7)] {
+    for (length, text, status) in [(1_048_576, report, 3), (1_048_577, "not built\n", 7)] {
         let mut document = THREE.as_bytes().to_vec(alloc)?;
         document.resize(length, b'\n')?;
         let given = Run {

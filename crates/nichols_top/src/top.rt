@@ -39,7 +39,8 @@ pub fn run<R: Threads + Sync, S: Source, K: Sink>(
         EndsAs (due (map string_bytes words.now) document) (K.taken sink.old) (K.taken sink.new)
         (Rose (S.faults source.old) (S.faults source.new)) (Rose (K.faults sink.old) (K.faults sink.new)) result }
 
-    // For every source: what was written is the report of some document, or the stated part of it.
+    // For every source, and a sink that tells its bytes: the report of some document was written, or the stated part of it.
+    // For another sink this speaks of the status and the counts alone.
     ensures some_report { (document : List ℕ) × EndsAs (due (map string_bytes words.now) document) (K.taken sink.old) (K.taken sink.new)
         (Rose (S.faults source.old) (S.faults source.new)) (Rose (K.faults sink.old) (K.faults sink.new)) result }
 

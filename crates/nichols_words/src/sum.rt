@@ -16,7 +16,8 @@ impl Comb {
     /// The terms are sorted where they stand and summed up in one pass, so that n terms take about n log n steps.
     pub fn sum_of(alloc: Global, field: Field, terms: &mut [Term]) -> Result<Comb, AllocError>
         requires { AllElements field terms.old }
-        ensures sorted { IsPermutation terms.old terms.new }
+        ensures permutation { IsPermutation terms.old terms.new }
+        ensures sorted { IsSortedByKey (λ (t : PlainTerm). t.word) word_cmp terms.new }
         ensures value { IfOk result (λ r. HasSameValues field r terms.old) }
         ensures shape { IfOk result IsOrdered }
         ensures elements { IfOk result (AllElements field) }
