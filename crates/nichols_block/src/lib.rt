@@ -1,7 +1,7 @@
 //! Degrees of a Nichols algebra: its least words, the normal forms of their derivatives and its relations, each degree made
 //! from the one below by skew derivations.
 //!
-//! A call that takes the allocator answers `AllocError` where there was no memory.
+//! `AllocError` says that there was no memory.
 #![tactic(auto)]
 
 mod degree;

@@ -1,6 +1,6 @@
 //! Skew derivations of combinations.
 //!
-//! A call that takes the allocator answers `AllocError` where there was no memory.
+//! `AllocError` says that there was no memory.
 #![tactic(auto)]
 
 mod derivation;

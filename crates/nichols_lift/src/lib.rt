@@ -1,6 +1,6 @@
 //! Lifts of permutations to words, and the quantum symmetrizer with its laws.
 //!
-//! A call that takes the allocator answers `AllocError` where there was no memory.
+//! `AllocError` says that there was no memory.
 #![tactic(auto)]
 
 mod crossing;

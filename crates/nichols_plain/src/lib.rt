@@ -1,6 +1,6 @@
 //! Degrees of a Nichols algebra straight from the quantum symmetrizer: the plain program that faster ones are held against.
 //!
-//! A call that takes the allocator answers `AllocError` where there was no memory.
+//! `AllocError` says that there was no memory.
 #![tactic(auto)]
 
 mod columns;

@@ -1,6 +1,6 @@
 //! Rows of words: what an elimination of the rows says of the words that have them.
 //!
-//! A call that takes the allocator answers `AllocError` where there was no memory.
+//! `AllocError` says that there was no memory.
 #![tactic(auto)]
 
 mod reading;

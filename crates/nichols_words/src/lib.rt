@@ -1,6 +1,6 @@
 //! Words and combinations of words: the elements of the tensor algebra that the program works with.
 //!
-//! A call that takes the allocator answers `AllocError` where there was no memory.
+//! `AllocError` says that there was no memory.
 #![tactic(auto)]
 
 mod comb;
