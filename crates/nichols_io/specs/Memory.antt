@@ -2,9 +2,6 @@
 use Rattle.std.specs.Prelude.{◌≡◌, ℕ, List, drop}
 use Rattle.nichols_io.specs.declared.sources.Got.{Got}
 use Rattle.nichols_io.specs.declared.sources.Got.TheVariants.{Bytes, End, Failed}
-use Rattle.nichols_io.specs.declared.sinks.Put.{Put}
-use Rattle.nichols_io.specs.declared.sinks.Put.TheVariants.{Took, Failed as PutFailed}
-use Rattle.nichols_io.specs.Counts.{following}
 
 -- a source that fails at the calls with these numbers
 pub record MemorySourceState : Type 0 where
@@ -31,14 +28,3 @@ abbrev pub KeepsRest : Got → List ℕ → List ℕ → Type 0
 KeepsRest (Bytes k) before after = drop k after ≡ drop k before
 KeepsRest End before after = after ≡ before
 KeepsRest Failed before after = after ≡ before
-
--- a count of faults rises by one at a read that fails, and stays at each other
-abbrev pub CountsRead : Got → ℕ → ℕ → Type 0
-CountsRead (Bytes k) before after = after ≡ before
-CountsRead End before after = after ≡ before
-CountsRead Failed before after = after ≡ following before
-
--- a count of faults rises by one at a write that fails, and stays at each other
-abbrev pub CountsWrite : Put → ℕ → ℕ → Type 0
-CountsWrite (Took k) before after = after ≡ before
-CountsWrite PutFailed before after = after ≡ following before

@@ -21,3 +21,9 @@ abbrev pub IfBytes : Got → (ℕ → Type 0) → Type 0
 IfBytes (Bytes k) P = P k
 IfBytes End P = ⊤
 IfBytes Failed P = ⊤
+
+-- a fact for a read that didn't fail
+abbrev pub UnlessFailed : Got → Type 0 → Type 0
+UnlessFailed (Bytes k) P = P
+UnlessFailed End P = P
+UnlessFailed Failed P = ⊤

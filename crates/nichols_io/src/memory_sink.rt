@@ -3,7 +3,6 @@
 ghost use Rattle.std.specs.Prelude.{◌≡◌, ◌+◌, ◌<◌, ◌≤◌, ◌↔◌, ◌⊎◌, [], length, min, Contains, IfOk, Some};
 ghost use Rattle.nichols_io.specs.Counts.{Rose, following};
 ghost use Rattle.nichols_io.specs.Sink.{Writes, OnWriteFailed, IfTook};
-ghost use Rattle.nichols_io.specs.Memory.{CountsWrite};
 
 use crate::sinks::{Put, Sink};
 use std::alloc::{AllocError, Global};
@@ -71,12 +70,13 @@ impl Sink for MemorySink {
         ensures bytes { Writes result piece.now (Some self.old.taken) (Some self.new.taken) }
         ensures amount { IfTook result (λ k. k ≡ min (min self.old.most self.old.room) (length piece.now)) }
         ensures cause { OnWriteFailed result (Rose self.old.faults self.new.faults) }
+        ensures steady { IfTook result (λ _. self.new.faults ≡ self.old.faults) }
         ensures count { self.old.faults ≤ self.new.faults }
 
         // The number of a call and the count of faults stay at the last value of a `u64`.
         ensures calls { self.new.calls ≡ following self.old.calls }
         ensures failed { (result ≡ Put.Failed) ↔ (Contains self.old.failing self.new.calls ⊎ (self.old.room ≡ 0)) }
-        ensures faults { CountsWrite result self.old.faults self.new.faults }
+        ensures faults { OnWriteFailed result (self.new.faults ≡ following self.old.faults) }
         ensures room { length self.new.taken + self.new.room ≡ length self.old.taken + self.old.room }
         ensures settings { (self.new.most ≡ self.old.most) × (self.new.failing ≡ self.old.failing) }
     {

@@ -2,8 +2,8 @@
 
 ghost use Rattle.std.specs.Prelude.{◌≡◌, ◌<◌, ◌≤◌, ◌↔◌, length, min, Contains, Some};
 ghost use Rattle.nichols_io.specs.Counts.{Rose, following};
-ghost use Rattle.nichols_io.specs.Source.{Reads, OnReadFailed, IfBytes};
-ghost use Rattle.nichols_io.specs.Memory.{KeepsRest, CountsRead};
+ghost use Rattle.nichols_io.specs.Source.{Reads, OnReadFailed, UnlessFailed, IfBytes};
+ghost use Rattle.nichols_io.specs.Memory.{KeepsRest};
 
 use crate::sources::{Got, Source};
 use crate::steady_source::SteadySource;
@@ -58,12 +58,13 @@ impl Source for MemorySource {
         ensures amount { IfBytes result (λ k. k ≡ min (min self.old.chunk (length self.old.left)) (length buf.old)) }
         ensures rest { KeepsRest result buf.old buf.new }
         ensures cause { OnReadFailed result (Rose self.old.faults self.new.faults) }
+        ensures steady { UnlessFailed result (self.new.faults ≡ self.old.faults) }
         ensures count { self.old.faults ≤ self.new.faults }
 
         // The number of a call and the count of faults stay at the last value of a `u64`.
         ensures calls { self.new.calls ≡ following self.old.calls }
         ensures failed { (result ≡ Got.Failed) ↔ Contains self.old.failing self.new.calls }
-        ensures faults { CountsRead result self.old.faults self.new.faults }
+        ensures faults { OnReadFailed result (self.new.faults ≡ following self.old.faults) }
         ensures settings { (self.new.chunk ≡ self.old.chunk) × (self.new.failing ≡ self.old.failing) }
     {
         self.calls = self.calls.saturating_add(1);

@@ -1,10 +1,10 @@
 //! Sources of bytes.
 
-ghost use Rattle.std.specs.Prelude.{◌<◌, ◌≤◌, ℕ, List, length};
+ghost use Rattle.std.specs.Prelude.{◌≡◌, ◌<◌, ◌≤◌, ℕ, List, length};
 ghost use Rattle.std.specs.declared.option.Option.{Option};
 ghost use Rattle.nichols_io.specs.Counts.{Rose};
 ghost use Rattle.nichols_io.specs.Bytes.{TellsAlike};
-ghost use Rattle.nichols_io.specs.Source.{Reads, OnReadFailed};
+ghost use Rattle.nichols_io.specs.Source.{Reads, OnReadFailed, UnlessFailed};
 
 /// What a read gave.
 #[derive(Clone, Copy, PartialEq, Eq, Debug)]
@@ -31,5 +31,6 @@ pub trait Source {
         ensures bytes { Reads result buf.new (left self.old) (left self.new) }
         ensures told { TellsAlike (left self.old) (left self.new) }
         ensures cause { OnReadFailed result (Rose (faults self.old) (faults self.new)) }
+        ensures steady { UnlessFailed result (faults self.new ≡ faults self.old) }
         ensures count { faults self.old ≤ faults self.new };
 }

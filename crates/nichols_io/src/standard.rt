@@ -3,7 +3,7 @@
 ghost use Rattle.std.specs.Prelude.{◌≡◌, ◌<◌, ◌≤◌, length, take, None, IfSome};
 ghost use Rattle.std.specs.Io.KnownBytes.{Appends};
 ghost use Rattle.nichols_io.specs.Counts.{Rose};
-ghost use Rattle.nichols_io.specs.Source.{Reads, OnReadFailed};
+ghost use Rattle.nichols_io.specs.Source.{Reads, OnReadFailed, UnlessFailed};
 ghost use Rattle.nichols_io.specs.Sink.{OnWriteFailed, IfTook};
 
 use crate::sinks::{Put, Sink};
@@ -21,7 +21,8 @@ pub struct StdSource<R: Read> {
 impl<R: Read> StdSource<R> {
     /// A source of what the reader gives.
     pub fn new(inner: R) -> StdSource<R>
-        ensures { result.inner ≡ inner }
+        ensures inner { result.inner ≡ inner }
+        ensures fresh { result.faults ≡ 0 }
     {
         StdSource { inner, faults: 0 }
     }
@@ -36,6 +37,7 @@ impl<R: Read> Source for StdSource<R> {
         requires { 0 < length buf.old }
         // Where the reader tells its bytes, it is their source.
         ensures bytes { Reads result buf.new (R.remaining self.old.inner) (R.remaining self.new.inner) }
+        ensures steady { UnlessFailed result (self.new.faults ≡ self.old.faults) }
         ensures cause { OnReadFailed result (Rose self.old.faults self.new.faults) }
         ensures count { self.old.faults ≤ self.new.faults }
     {
@@ -62,7 +64,8 @@ pub struct StdSink<W: Write> {
 impl<W: Write> StdSink<W> {
     /// A sink that hands on to the writer.
     pub fn new(inner: W) -> StdSink<W>
-        ensures { result.inner ≡ inner }
+        ensures inner { result.inner ≡ inner }
+        ensures fresh { result.faults ≡ 0 }
     {
         StdSink { inner, faults: 0 }
     }
@@ -92,6 +95,7 @@ impl<W: Write> Sink for StdSink<W> {
         ensures within { IfTook result (λ k. (0 < k) × (k ≤ length piece.now)) }
         // Where the writer tells its bytes, they grew by those taken.
         ensures bytes { IfTook result (λ k. Appends (W.contents self.old.inner) (W.contents self.new.inner) (take k piece.now)) }
+        ensures steady { IfTook result (λ _. self.new.faults ≡ self.old.faults) }
         ensures cause { OnWriteFailed result (Rose self.old.faults self.new.faults) }
         ensures count { self.old.faults ≤ self.new.faults }
     {

@@ -43,7 +43,7 @@ impl Source for SteadySource {
         requires { 0 < length buf.old }
         ensures bytes { Reads result buf.new (Some self.old) (Some self.new) }
         ensures amount { IfBytes result (λ k. k ≡ min (length self.old) (length buf.old)) }
-        ensures steady { result ≢ Got.Failed }
+        ensures unfailing { result ≢ Got.Failed }
         ensures rest { KeepsRest result buf.old buf.new }
     {
         let count = (self.bytes.len() - self.at).min(buf.len());

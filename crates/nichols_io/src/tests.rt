@@ -20,6 +20,26 @@ fn a_memory_sink_takes_as_it_is_told(rt: HostRuntime) -> Result<(), Fail> {
 }
 
 #[test]
+fn a_memory_sink_fails_at_its_numbers(rt: HostRuntime) -> Result<(), Fail> {
+    let failing = [2, 3, 5].to_vec(rt.alloc())?;
+    let mut sink = MemorySink::new(rt.alloc(), 20, 8, failing)?;
+    let wanted = [
+        Put::Took(8),
+        Put::Failed,
+        Put::Failed,
+        Put::Took(8),
+        Put::Failed,
+        Put::Took(4),
+        Put::Failed,
+    ];
+    for (call, want) in wanted.into_iter().enumerate() {
+        assert_eq!(rt; sink.write(PIECE), want, "call {call}");
+    }
+    assert_eq!(rt; sink.taken(), b"The braiThe braiThe ".as_slice());
+    Ok(())
+}
+
+#[test]
 fn a_piece_is_put_as_far_as_the_sink_goes(rt: HostRuntime) -> Result<(), Fail> {
     // The room, the number of the call that fails, whether all was taken, and how much was.
     let table = [
@@ -125,6 +145,113 @@ fn a_writer_of_std_passes_its_bytes_on(rt: HostRuntime) -> Result<(), Fail> {
     assert!(rt; put_all(&mut sink, PIECE));
     drop(sink);
     assert_eq!(rt; written.as_slice(), PIECE);
+    Ok(())
+}
+
+/// A reader whose first read fails. Those after it give the bytes.
+#[derive(Drop)]
+struct Interrupted<'a> {
+    has_failed: bool,
+    bytes: &'a [u8],
+}
+
+impl Read for Interrupted<'_> {
+    fn read(&mut self, buf: &mut [u8]) -> io::Result<usize> {
+        if self.has_failed {
+            return self.bytes.read(buf);
+        }
+        self.has_failed = true;
+        Err(io::Error::from(ErrorKind::BrokenPipe))
+    }
+}
+
+#[test]
+fn a_reading_after_a_fault_misses_no_byte(rt: HostRuntime) -> Result<(), Fail> {
+    let mut source = StdSource::new(Interrupted {
+        has_failed: false,
+        bytes: PIECE,
+    });
+    assert_eq!(rt;
+        read_all(rt.alloc(), &mut source, 64).err(),
+        Some(ReadFault::Failed)
+    );
+    let all = read_all(rt.alloc(), &mut source, 64).ok().ok_or("refused")?;
+    assert_eq!(rt; all.as_slice(), PIECE);
+    Ok(())
+}
+
+/// A writer that holds what it takes, eight bytes at most, until a flush shows it. One flush may fail.
+#[derive(Drop)]
+struct Buffered {
+    held: Vec<u8>,
+    shown: Vec<u8>,
+    writes: u32,
+    flushes: u32,
+    failing: u32,
+}
+
+impl Write for Buffered {
+    fn write(&mut self, buf: &[u8]) -> io::Result<usize> {
+        self.writes = self.writes.saturating_add(1);
+        let count = buf.len().min(8);
+        self.held.extend_from_slice(buf.split_at(count).0)?;
+        Ok(count)
+    }
+
+    fn flush(&mut self) -> io::Result<()> {
+        self.flushes = self.flushes.saturating_add(1);
+        if self.flushes == self.failing {
+            return Err(io::Error::from(ErrorKind::BrokenPipe));
+        }
+        self.shown.extend_from_slice(self.held.as_slice())?;
+        self.held.clear();
+        Ok(())
+    }
+}
+
+#[test]
+fn each_write_to_std_is_flushed(rt: HostRuntime) -> Result<(), Fail> {
+    // The number of the flush that fails, whether all was taken, how much is shown, and how many writes were made.
+    let table = [
+        (0, true, 44, 6),
+        (1, false, 0, 1),
+        (4, false, 24, 4),
+        (6, false, 40, 6),
+        (7, true, 44, 6),
+    ];
+    for (failing, whole, shown, writes) in table {
+        let mut sink = StdSink::new(Buffered {
+            held: Vec::new(rt.alloc()),
+            shown: Vec::new(rt.alloc()),
+            writes: 0,
+            flushes: 0,
+            failing,
+        });
+        assert_eq!(rt; put_all(&mut sink, PIECE), whole, "flush {failing}");
+        assert_eq!(rt; sink.inner.shown.len(), shown, "flush {failing}");
+        assert!(rt;
+            PIECE.starts_with(sink.inner.shown.as_slice()),
+            "flush {failing}"
+        );
+        assert_eq!(rt; sink.inner.writes, writes, "flush {failing}");
+        assert_eq!(rt; sink.inner.flushes, writes, "flush {failing}");
+    }
+    Ok(())
+}
+
+#[test]
+fn a_fault_says_what_happened(rt: HostRuntime) -> Result<(), Fail> {
+    let table = [
+        (ReadFault::Failed, "the source failed"),
+        (ReadFault::TooLong, "more bytes came than the limit"),
+        (
+            ReadFault::Memory,
+            "there was no memory for the bytes that came",
+        ),
+    ];
+    for (fault, text) in table {
+        assert_eq!(rt; format!(in rt.alloc(); "{fault}")?.as_str(), text);
+    }
     Ok(())
 }
 

@@ -1,4 +1,4 @@
-use Rattle.std.proofs.Common.{◌≤◌, ◌+◌, ◌-◌, length}
+use Rattle.std.proofs.Common.{◌≡◌, ◌≤◌, ◌+◌, ◌-◌, length}
 use Rattle.std.specs.Io.KnownBytes.{Consumes}
 use Rattle.nichols_io.specs.Bytes.{TellsAlike}
 use Rattle.nichols_io.proofs.reading.read_all.Given as goal
@@ -7,7 +7,7 @@ abbrev pub invariant-reading : goal.invariant-reading
 invariant-reading g l = record {
   bytes : Consumes (g.S.Source.left l.fn.source) (g.S.Source.left l.source) l.all.items;
   within : length l.all.items ≤ l.limit;
-  count : g.S.Source.faults l.fn.source ≤ g.S.Source.faults l.source;
+  steady : g.S.Source.faults l.source ≡ g.S.Source.faults l.fn.source;
   told : TellsAlike (g.S.Source.left l.fn.source) (g.S.Source.left l.source);
 }
 
