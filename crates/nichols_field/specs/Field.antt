@@ -3,43 +3,47 @@
 use Rattle.std.specs.Prelude.{ℕ, ◌+◌, ◌-◌, ◌*◌, ◌%◌, ◌<◌, ℤ, pos, negsuc, Bool, false, IsTrue, List, [], ◌∷◌, ◌++◌, zero, suc}
 use Rattle.nichols_field.specs.Moduli.{is_modulus}
 
--- a field as contracts see it
-abbrev pub FieldValue : Type 0
-FieldValue = ℕ
+-- a field as contracts see it: how many elements it has
+pub record FieldValue : Type 0 where
+  pub size : ℕ
 
 -- what holds of each field
 unfoldable pub IsField : FieldValue → Type 0
-IsField p = IsTrue (is_modulus p)
+IsField field = IsTrue (is_modulus field.size)
 
 -- the field of p elements
 unfoldable pub prime_field : ℤ → FieldValue
-prime_field (pos n) = n
-prime_field (negsuc n) = 0
+prime_field (pos n) = record { size = n }
+prime_field (negsuc n) = record { size = 0 }
 
 -- the p of a field
 unfoldable pub modulus_of : FieldValue → ℕ
-modulus_of p = p
+modulus_of field = field.size
 
 -- the number is an element of the field
 unfoldable pub IsElement : FieldValue → ℕ → Type 0
-IsElement p a = a < p
+IsElement field a = a < field.size
 
 -- the sum of two elements
 unfoldable pub plus : FieldValue → ℕ → ℕ → ℕ
-plus p a b = (a + b) % p
+plus field a b = (a + b) % field.size
 
 -- the product of two elements
 unfoldable pub times : FieldValue → ℕ → ℕ → ℕ
-times p a b = (a * b) % p
+times field a b = (a * b) % field.size
+
+-- the element that an unreduced sum, which is any number, stands for
+unfoldable pub settled : FieldValue → ℕ → ℕ
+settled field n = n % field.size
 
 -- the element whose sum with the given one is 0
 unfoldable pub negative : FieldValue → ℕ → ℕ
-negative p a = (p - a) % p
+negative field a = (field.size - a) % field.size
 
 -- the element that an integer stands for
 unfoldable pub residue : FieldValue → ℤ → ℕ
-residue p (pos n) = n % p
-residue p (negsuc n) = p - 1 - n % p
+residue field (pos n) = n % field.size
+residue field (negsuc n) = field.size - 1 - n % field.size
 
 -- the numbers below a bound
 abbrev pub numbers_below : ℕ → List ℕ
@@ -48,7 +52,7 @@ numbers_below (suc n) = numbers_below n ++ n ∷ []
 
 -- all elements, each once
 unfoldable pub elements : FieldValue → List ℕ
-elements p = numbers_below p
+elements field = numbers_below field.size
 
 -- whether an integer is one of the moduli
 abbrev pub is_modulus_integer : ℤ → Bool

@@ -2,8 +2,10 @@
 #![tactic(auto)]
 
 ghost use Rattle.std.specs.Prelude.{◌≡◌, ◌≢◌, IsTrue, MatchResult, false};
-ghost use Rattle.nichols_field.specs.Field.{IsField, IsElement, plus, times, negative, residue, is_modulus_integer, prime_field, modulus_of};
+ghost use Rattle.nichols_field.specs.Field.{IsField, IsElement, plus, times, settled, negative, residue, is_modulus_integer, prime_field, modulus_of};
 
+use std::error::Error;
+use std::fmt;
 use std::marker::Model;
 
 pub mod laws;
@@ -23,11 +25,11 @@ impl Model for Field {
 
     ghost Value = { FieldValue };
 
-    ghost view = { λ f. f.modulus };
+    ghost view = { λ f. record { size = f.modulus } };
 
     ghost invariant = { λ f. IsTrue (is_modulus f.modulus) };
 
-    ghost inverse = { λ p. record { modulus = p } };
+    ghost inverse = { λ p. record { modulus = p.size } };
 }
 
 /// Why there is no field.
@@ -36,6 +38,19 @@ pub enum FieldFault {
     /// The modulus isn't one of the six.
     OutsideList(i64),
 }
+
+impl fmt::Display for FieldFault {
+    fn fmt<W: fmt::Write>(&self, f: &mut fmt::Formatter<W>) -> fmt::Result {
+        match self {
+            FieldFault::OutsideList(p) => write!(f, "{p} is none of 2, 3, 5, 7, 101 and 65521"),
+        }
+    }
+}
+
+impl Error for FieldFault {}
+
+/// An unreduced sum below this has room for a product of elements.
+const ROOM: u64 = 1 << 63;
 
 impl Field {
     /// The field of p elements.
@@ -109,6 +124,58 @@ impl Field {
         ensures element { IsElement self result }
     {
         (sum + a * b) % self.modulus
+    }
+
+    /// An unreduced sum with a product added, to be settled once at the end.
+    ///
+    /// Any number is an unreduced sum; it is reduced here only where it is so great that the
+    /// product might not fit beside it.
+    #[inline(always)]
+    #[tactic(auto, using(crate::proofs::Table::modulus_bounds, crate::proofs::FieldLaws::product_fits, crate::proofs::Pending::settled_product, crate::proofs::Pending::settled_product_again, std::proofs::lemmas::Nat::mod_below), unfolding(crate::specs::Field::IsElement))]
+    pub fn add_product_to(self, pending: u64, a: u32, b: u32) -> u64
+        requires left { IsElement self a }
+        requires right { IsElement self b }
+        ensures { settled self result ≡ plus self (settled self pending) (times self a b) }
+    {
+        let product = a as u64 * b as u64;
+        if pending < ROOM {
+            pending + product
+        } else {
+            pending % self.modulus as u64 + product
+        }
+    }
+
+    /// An unreduced sum with an element added.
+    #[inline(always)]
+    #[tactic(auto, using(crate::proofs::Table::modulus_bounds, crate::proofs::Pending::settled_sum, crate::proofs::Pending::settled_sum_again, std::proofs::lemmas::Nat::mod_below), unfolding(crate::specs::Field::IsElement))]
+    pub fn add_to(self, pending: u64, a: u32) -> u64
+        requires { IsElement self a }
+        ensures { settled self result ≡ plus self (settled self pending) a }
+    {
+        if pending < ROOM {
+            pending + a as u64
+        } else {
+            pending % self.modulus as u64 + a as u64
+        }
+    }
+
+    /// The element that an unreduced sum stands for.
+    #[inline(always)]
+    #[tactic(auto, using(crate::proofs::Table::modulus_bounds, std::proofs::lemmas::Nat::mod_below), unfolding(crate::specs::Field::settled, crate::specs::Field::IsElement))]
+    pub fn settle(self, pending: u64) -> u32
+        ensures value { result ≡ settled self pending }
+        ensures element { IsElement self result }
+    {
+        let rest = match self.modulus {
+            2 => pending % 2,
+            3 => pending % 3,
+            5 => pending % 5,
+            7 => pending % 7,
+            101 => pending % 101,
+            65521 => pending % 65521,
+            p => pending % p as u64,
+        };
+        rest as u32
     }
 
     /// The element whose sum with a is 0.
