@@ -1,35 +1,37 @@
 -- The list of all words of a length: which words it has, that it rises, and which words stand before one of them.
 use Rattle.std.proofs.Common.{◌≡◌, ℕ, zero, suc, ◌<◌, List, [], ◌∷◌, ◌++◌, map, length, refl, sym, ◌∙◌, ap, subst, arith, inl, inr}
-use Rattle.std.specs.List.{AllByRecursion}
+use Rattle.std.specs.List.{AllByRecursion, Contains}
 use Rattle.std.specs.Ordering.{is_lt, nat_cmp, ordering_then}
 use Rattle.std.specs.Cmp.{nat_cmp_is}
 use Rattle.std.specs.Cmp.Lexicographic.{slice_cmp}
 use Rattle.std.specs.declared.cmp.Ordering.{Ordering}
 use Rattle.std.specs.declared.cmp.Ordering.TheVariants.{Less, Equal, Greater}
-use Rattle.nichols_tensor.specs.Members.{IsIn}
 use Rattle.nichols_tensor.specs.Combination.{Combination, AllAmong}
 use Rattle.nichols_tensor.specs.Words.{up_to, IsWordOver, IsOver, HasDegree, words, words_before}
 use Rattle.nichols_tensor.specs.WordOrder.{word_cmp, IsRising}
-use Rattle.nichols_tensor.proofs.Entries.{in_map, in_flat_map, from_map, from_flat_map, in_filter, from_filter}
+use Rattle.nichols_tensor.proofs.Entries.{contains_none, contains_first, contains_cases, in_map, in_flat_map, from_map, from_flat_map, in_filter, from_filter}
 use Rattle.nichols_tensor.proofs.Letters.{in_up_to, from_up_to}
-use Rattle.nichols_tensor.proofs.Over.{all-append}
+use Rattle.nichols_tensor.proofs.Over.{all-append, all-weaker}
 use Rattle.nichols_tensor.proofs.Pushed.{pushed_length}
 use Rattle.nichols_tensor.proofs.Rising.{AllOrdered, rising-map, rising-flat_map, less_by_test}
 
 -- ---- which words
 
-pub in_words : (n m : ℕ) (w : List ℕ) → length w ≡ m → IsWordOver n w → IsIn w (words n m)
-unfolding words IsIn
-in_words n zero [] e o = inl refl
+pub in_words : (n m : ℕ) (w : List ℕ) → length w ≡ m → IsWordOver n w → Contains (words n m) w
+unfolding words
+in_words n zero [] e o = contains_first [] []
 in_words n zero (a ∷ w) e o = absurd (omega arith)
 in_words n (suc m) [] e o = absurd (omega arith)
 in_words n (suc m) (a ∷ w) e o =
     in_flat_map (λ b. map (λ v. b ∷ v) (words n m)) a (up_to n) (a ∷ w) (in_up_to n a o.0) (in_map (λ v. a ∷ v) w (words n m) (in_words n m w (omega arith) o.1))
 
-pub from_words : (n m : ℕ) (w : List ℕ) → IsIn w (words n m) → (length w ≡ m) × IsWordOver n w
-unfolding words IsIn
-from_words n zero w (inl e) = (ap length e, subst (IsWordOver n) (sym e) tt)
-from_words n zero w (inr i) = absurd i
+pub from_words : (n m : ℕ) (w : List ℕ) → Contains (words n m) w → (length w ≡ m) × IsWordOver n w
+unfolding words
+from_words n zero w i =
+    elim (contains_cases [] [] w i) [
+      | inl e ↦ (ap length e, subst (IsWordOver n) (sym e) tt)
+      | inr none ↦ absurd (contains_none w none)
+    ]
 from_words n (suc m) w i =
     let (a, j, k) = from_flat_map (λ b. map (λ v. b ∷ v) (words n m)) w (up_to n) i in
     let (v, l, e) = from_map (λ v. a ∷ v) w (words n m) k in
@@ -62,11 +64,7 @@ up_to_rises (suc n) = pushed (up_to n) (suc n) (up_to_rises n) (all_below n)
   where
     all_below : (n : ℕ) → AllByRecursion (λ a. a < suc n) (up_to n)
     all_below zero = tt
-    all_below (suc n) = all-append (λ a. a < suc (suc n)) (up_to n) (suc n ∷ []) (more (up_to n) (all_below n)) (omega arith, tt)
-      where
-        more : (cs : List ℕ) → AllByRecursion (λ a. a < suc n) cs → AllByRecursion (λ a. a < suc (suc n)) cs
-        more [] h = tt
-        more (a ∷ cs) h = (omega (arith, h.0), more cs h.1)
+    all_below (suc n) = all-append (λ a. a < suc (suc n)) (up_to n) (suc n ∷ []) (all-weaker (λ a. a < suc n) (λ a. a < suc (suc n)) (λ a less. omega arith) (up_to n) (all_below n)) (omega arith, tt)
 
     pushed : (cs : List ℕ) (b : ℕ) → AllOrdered (λ a c. a < c) cs → AllByRecursion (λ a. a < b) cs → AllOrdered (λ a c. a < c) (cs ++ b ∷ [])
     pushed [] b o h = (tt, tt)
@@ -85,11 +83,11 @@ words_rise n (suc m) =
 
 -- ---- the words before a word
 
-pub in_words_before : (n : ℕ) (v w : List ℕ) → length v ≡ length w → IsWordOver n v → word_cmp v w ≡ Less → IsIn v (words_before n w)
+pub in_words_before : (n : ℕ) (v w : List ℕ) → length v ≡ length w → IsWordOver n v → word_cmp v w ≡ Less → Contains (words_before n w) v
 unfolding words_before
 in_words_before n v w e o less = in_filter (λ u. is_lt (word_cmp u w)) v (words n (length w)) (in_words n (length w) v e o) (ap is_lt less)
 
-pub from_words_before : (n : ℕ) (v w : List ℕ) → IsIn v (words_before n w) → (length v ≡ length w) × IsWordOver n v × (word_cmp v w ≡ Less)
+pub from_words_before : (n : ℕ) (v w : List ℕ) → Contains (words_before n w) v → (length v ≡ length w) × IsWordOver n v × (word_cmp v w ≡ Less)
 unfolding words_before
 from_words_before n v w i =
     let (j, less) = from_filter (λ u. is_lt (word_cmp u w)) v (words n (length w)) i in

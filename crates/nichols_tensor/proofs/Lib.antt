@@ -12,3 +12,7 @@ pub mod Rising
 pub mod AllWords
 pub mod Tests
 pub mod Permuted
+pub mod InOrder
+pub mod Parts
+mod WorkedRows
+pub mod Zero

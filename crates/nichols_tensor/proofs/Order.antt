@@ -31,7 +31,7 @@ less_back v w h = word_cmp_total.antisymm w v ∙ ap ordering_reverse h
 pub greater_back : (v w : List ℕ) → word_cmp v w ≡ Less → word_cmp w v ≡ Greater
 greater_back v w h = word_cmp_total.antisymm w v ∙ ap ordering_reverse h
 
-pub own_reverse : (o : Ordering) → o ≡ ordering_reverse o → o ≡ Equal
+own_reverse : (o : Ordering) → o ≡ ordering_reverse o → o ≡ Equal
 own_reverse Less h = cc
 own_reverse Equal h = refl
 own_reverse Greater h = cc

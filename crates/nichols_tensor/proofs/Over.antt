@@ -1,15 +1,27 @@
 -- Which letters and which degrees occur in words and in combinations.
-use Rattle.std.proofs.Common.{◌≡◌, ℕ, zero, suc, ◌<◌, List, [], ◌∷◌, ◌++◌, length, take, sym, subst, arith, inl, inr}
+use Rattle.std.proofs.Common.{◌≡◌, ℕ, zero, suc, ◌<◌, Bool, true, List, [], ◌∷◌, ◌++◌, length, take, arith}
 use Rattle.std.specs.Prelude.{slice_index}
-use Rattle.std.specs.List.{AllByRecursion}
+use Rattle.std.specs.List.{AllByRecursion, Contains, filter}
+use Rattle.std.proofs.lemmas.List.Elements.{All-contains, All-filter, All-weaker, All-from_recursion, recursion_from_All, filter_passes}
 use Rattle.nichols_field.specs.Field.{FieldValue}
-use Rattle.nichols_tensor.specs.Members.{IsIn}
 use Rattle.nichols_tensor.specs.Combination.{Combination, words_of, AllAmong, scaled}
 use Rattle.nichols_tensor.specs.Words.{IsLetterOf, IsWordOver, IsOver, HasDegree}
 
 pub all-append : {X : Type 0} (P : X → Type 0) (xs ys : List X) → AllByRecursion P xs → AllByRecursion P ys → AllByRecursion P (xs ++ ys)
 all-append P [] ys h k = k
 all-append P (x ∷ xs) ys h k = (h.0, all-append P xs ys h.1 k)
+
+pub all-weaker : {X : Type 0} (P Q : X → Type 0) → ((x : X) → P x → Q x) → (xs : List X) → AllByRecursion P xs → AllByRecursion Q xs
+all-weaker P Q weaker [] h = tt
+all-weaker P Q weaker (x ∷ xs) h = (weaker x h.0, all-weaker P Q weaker xs h.1)
+
+-- what holds of each entry still does of those that pass a test
+pub all-filter : {X : Type 0} (P : X → Type 0) (t : X → Bool) (xs : List X) → AllByRecursion P xs → AllByRecursion P (filter t xs)
+all-filter P t xs h = recursion_from_All P (filter t xs) (All-filter t P xs (All-from_recursion P xs h))
+
+-- and so does what the test says
+pub passes-filter : {X : Type 0} (P : X → Type 0) (t : X → Bool) → ((x : X) → t x ≡ true → P x) → (xs : List X) → AllByRecursion P (filter t xs)
+passes-filter P t says xs = recursion_from_All P (filter t xs) (All-weaker (λ x. t x ≡ true) P says (filter t xs) (filter_passes t xs))
 
 -- ---- words
 
@@ -37,11 +49,8 @@ letter_over n (a ∷ w) (suc k) h less = letter_over n w k h.1 (omega arith)
 
 -- ---- combinations
 
-pub all_at : {X : Type 0} (P : X → Type 0) (xs : List X) (x : X) → AllByRecursion P xs → IsIn x xs → P x
-unfolding IsIn
-all_at P [] x h i = absurd i
-all_at P (y ∷ ys) x h (inl e) = subst P (sym e) h.0
-all_at P (y ∷ ys) x h (inr i) = all_at P ys x h.1 i
+pub all_at : {X : Type 0} (P : X → Type 0) (xs : List X) (x : X) → AllByRecursion P xs → Contains xs x → P x
+all_at P xs x h i = All-contains P xs x (All-from_recursion P xs h) i
 
 -- what holds of each word of a combination, by its terms and by the list of its words
 pub all_of_words : (P : List ℕ → Type 0) (f : Combination) → AllByRecursion (λ t. P t.word) f → AllByRecursion P (words_of f)

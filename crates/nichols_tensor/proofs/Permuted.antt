@@ -1,5 +1,5 @@
 -- A combination with its terms in another order has the same values.
-use Rattle.std.proofs.Common.{◌≡◌, ℕ, zero, suc, ◌<◌, cond, List, [], ◌∷◌, length, set, get_or, refl, sym, ◌∙◌, ap, subst, arith, inl, inr, length-set, get_or-set_same, get_or-set_other}
+use Rattle.std.proofs.Common.{◌≡◌, ℕ, zero, suc, ◌<◌, List, [], ◌∷◌, length, set, get_or, refl, sym, ◌∙◌, ap, subst, arith, inl, inr, length-set, get_or-set_same, get_or-set_other}
 use Rattle.std.specs.List.{swap}
 use Rattle.std.specs.List.Sorted.{IsPermutation}
 use Rattle.std.proofs.lemmas.Bool.{cases_eq}
@@ -10,28 +10,24 @@ use Rattle.nichols_field.specs.Field.{FieldValue, IsField, IsElement, plus}
 use Rattle.nichols_field.proofs.FieldLaws.{plus_comm, plus_assoc}
 use Rattle.nichols_field.proofs.FieldAlgebra.{swap_first, plus_cancel, chosen_is_element}
 use Rattle.nichols_tensor.specs.Combination.{Term, Combination, value_at, same_letters, HasSameValues, AllElements}
-use Rattle.nichols_tensor.proofs.Values.{value_is_element}
+use Rattle.nichols_tensor.proofs.Values.{term_value, value_is_element}
 
 pub elements-permutation : (k : FieldValue) (xs ys : Combination) → IsPermutation xs ys → AllElements k xs → AllElements k ys
 elements-permutation k xs ys p h = recursion_from_All (λ t. IsElement k t.coefficient) ys (All-permutation (λ t. IsElement k t.coefficient) xs ys p (All-from_recursion (λ t. IsElement k t.coefficient) xs h))
 
--- what a term adds to the value at a word
-abbrev part : Term → List ℕ → ℕ
-part t w = cond (same_letters t.word w) t.coefficient 0
-
 -- a term replaced by another
-value_at-set : (k : FieldValue) → (f : Combination) (i : ℕ) (t d : Term) (w : List ℕ) → i < length f → plus k (value_at k (set f i t) w) (part (get_or f i d) w) ≡ plus k (value_at k f w) (part t w)
+value_at-set : (k : FieldValue) → (f : Combination) (i : ℕ) (t d : Term) (w : List ℕ) → i < length f → plus k (value_at k (set f i t) w) (term_value (get_or f i d) w) ≡ plus k (value_at k f w) (term_value t w)
 value_at-set k [] i t d w h = absurd (omega (arith, h))
-value_at-set k (u ∷ f) zero t d w h = plus_comm k (plus k (part t w) (value_at k f w)) (part u w) ∙ swap_first k (part u w) (part t w) (value_at k f w) ∙ plus_comm k (part t w) (plus k (part u w) (value_at k f w))
+value_at-set k (u ∷ f) zero t d w h = plus_comm k (plus k (term_value t w) (value_at k f w)) (term_value u w) ∙ swap_first k (term_value u w) (term_value t w) (value_at k f w) ∙ plus_comm k (term_value t w) (plus k (term_value u w) (value_at k f w))
 value_at-set k (u ∷ f) (suc i) t d w h =
-    plus_assoc k (part u w) (value_at k (set f i t) w) (part (get_or f i d) w) ∙ ap (plus k (part u w)) (value_at-set k f i t d w (omega arith)) ∙ sym (plus_assoc k (part u w) (value_at k f w) (part t w))
+    plus_assoc k (term_value u w) (value_at k (set f i t) w) (term_value (get_or f i d) w) ∙ ap (plus k (term_value u w)) (value_at-set k f i t d w (omega arith)) ∙ sym (plus_assoc k (term_value u w) (value_at k f w) (term_value t w))
 
 -- two terms in each other's place
 value_at-swap : (k : FieldValue) → IsField k → (f : Combination) (i j : ℕ) → i < length f → j < length f → AllElements k f → HasSameValues k (swap f i j) f
 value_at-swap k is f i j hi hj elements w =
     ap (λ g. value_at k g w) (sym (swap_is f i j d hi hj))
-    ∙ plus_cancel k (value_at k (set g j a) w) (value_at k f w) (part b w) is (value_is_element k is (set g j a) w) (value_is_element k is f w) (chosen_is_element k (same_letters b.word w) b.coefficient is (All-from_recursion (λ t. IsElement k t.coefficient) f elements j d hj))
-    (ap (λ t. plus k (value_at k (set g j a) w) (part t w)) (sym there) ∙ value_at-set k g j a d w (subst (λ n. j < n) (sym (length-set f i b)) hj) ∙ value_at-set k f i b d w hi)
+    ∙ plus_cancel k (value_at k (set g j a) w) (value_at k f w) (term_value b w) is (value_is_element k is (set g j a) w) (value_is_element k is f w) (chosen_is_element k (same_letters b.word w) b.coefficient is (All-from_recursion (λ t. IsElement k t.coefficient) f elements j d hj))
+    (ap (λ t. plus k (value_at k (set g j a) w) (term_value t w)) (sym there) ∙ value_at-set k g j a d w (subst (λ n. j < n) (sym (length-set f i b)) hj) ∙ value_at-set k f i b d w hi)
   where
     d : Term
     d = record { word = []; coefficient = 0 }

@@ -1,8 +1,7 @@
 -- Elements of the tensor algebra over a field: finite combinations of words.
 use Rattle.std.specs.Prelude.{◌≡◌, ◌≢◌, ℕ, Bool, List, [], ◌∷◌, ◌++◌, map, filter, not, if◌then◌else◌, nat_eq}
-use Rattle.std.specs.List.{flat_map, list_all, AllByRecursion}
+use Rattle.std.specs.List.{flat_map, list_all, AllByRecursion, Contains}
 use Rattle.nichols_field.specs.Field.{FieldValue, IsElement, plus, times, negative}
-use Rattle.nichols_tensor.specs.Members.{IsIn}
 use lib.Pointwise.{pointwise}
 
 -- a word, a list of letters, with its coefficient
@@ -48,7 +47,7 @@ AllNonzero f = AllByRecursion (λ t. t.coefficient ≢ 0) f
 
 -- each word is an entry of the list
 unfoldable pub AllAmong : Combination → List (List ℕ) → Type 0
-AllAmong f ws = AllByRecursion (λ t. IsIn t.word ws) f
+AllAmong f ws = AllByRecursion (λ t. Contains ws t.word) f
 
 -- a word as a combination
 abbrev pub single : List ℕ → Combination

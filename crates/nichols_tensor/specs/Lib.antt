@@ -1,7 +1,11 @@
-pub mod Members
+-- what public contracts cite
 pub mod Combination
 pub mod WordOrder
 pub mod Words
+pub mod Parts
+pub mod InOrder
 pub mod Relation
-pub mod Positions
+pub mod Laws
+-- what invariants and private functions use
 pub mod Inline
+pub mod Positions

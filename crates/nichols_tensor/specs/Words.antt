@@ -15,10 +15,6 @@ up_to (suc n) = up_to n ++ suc n ∷ []
 abbrev pub IsLetterOf : ℕ → ℕ → Type 0
 IsLetterOf n a = (1 ≤ a) × (a ≤ n)
 
--- the greatest letter of a braid, and the most letters that it has
-abbrev pub letter_limit : ℕ
-letter_limit = 24
-
 -- each letter of a word is one of n letters
 abbrev pub IsWordOver : ℕ → List ℕ → Type 0
 IsWordOver n w = AllByRecursion (IsLetterOf n) w

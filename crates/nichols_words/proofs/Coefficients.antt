@@ -2,6 +2,8 @@
 use Rattle.std.proofs.Common.{◌≡◌, ◌≢◌, ℕ, zero, suc, ◌<◌, Bool, true, false, cond, List, [], ◌∷◌, length, get_or, add-one, refl, sym, ◌∙◌, ap, subst, arith, Result, Ok, Err, inl, inr}
 use Rattle.std.specs.Cmp.Lexicographic.{same_text}
 use Rattle.std.proofs.lemmas.Bool.{cases_lt}
+use Rattle.std.specs.List.{Contains}
+use Rattle.std.proofs.lemmas.List.Elements.{Contains-get_or}
 use Rattle.std.specs.List.Sorted.{IsPartitionPoint, IsBinarySearchResult, IsSearchInRange, IsSortedByKey}
 use Rattle.std.specs.Ordering.{is_lt}
 use Rattle.std.specs.declared.cmp.Ordering.TheVariants.{Less, Equal, Greater}
@@ -10,9 +12,9 @@ use Rattle.std.proofs.lemmas.List.Sorted.{searchable_from_sorted}
 use Rattle.nichols_field.specs.Field.{FieldValue, IsField, plus}
 use Rattle.nichols_field.proofs.FieldLaws.{plus_zero}
 use Rattle.nichols_field.proofs.FieldAlgebra.{zero_plus}
-use Rattle.nichols_tensor.specs.Members.{IsIn}
 use Rattle.nichols_tensor.specs.Combination.{Term, Combination, value_at, same_letters, words_of, AllElements}
 use Rattle.nichols_tensor.specs.WordOrder.{word_cmp, IsRising}
+use Rattle.nichols_tensor.proofs.Entries.{in_map}
 use Rattle.nichols_tensor.proofs.Values.{value_is_element, same_itself}
 use Rattle.nichols_tensor.proofs.Order.{word_cmp_total, word_cmp_itself, same_word, greater_back}
 use Rattle.nichols_tensor.proofs.Ordered.{before_all, zero_at_others}
@@ -27,17 +29,14 @@ coefficient_is_value k is (t ∷ f) w e r = at (same_letters t.word w) refl (coe
   where
     at : (b : Bool) → same_letters t.word w ≡ b → coefficient_at f w ≡ value_at k f w → cond b t.coefficient (coefficient_at f w) ≡ plus k (cond b t.coefficient 0) (value_at k f w)
     at true same rest =
-        let none : value_at k f w ≡ 0 = zero_at_others k is f w (subst (λ v. IsIn v (words_of f) → ⊥) (same_text t.word w (sym same)) (before_all t.word (words_of f) r.0 r.1)) in
+        let none : value_at k f w ≡ 0 = zero_at_others k is f w (subst (λ v. Contains (words_of f) v → ⊥) (same_text t.word w (sym same)) (before_all t.word (words_of f) r.0 r.1)) in
         sym (plus_zero k t.coefficient e.0) ∙ ap (plus k t.coefficient) (sym none)
     at false other rest = rest ∙ sym (zero_plus k (value_at k f w) (value_is_element k is f w))
 
 -- ---- a search by order
 
-word_at : (f : Combination) (i : ℕ) (d : Term) → i < length f → IsIn (get_or f i d).word (words_of f)
-unfolding IsIn
-word_at [] i d less = absurd (omega arith)
-word_at (t ∷ f) zero d less = inl refl
-word_at (t ∷ f) (suc i) d less = inr (word_at f i d (omega arith))
+word_at : (f : Combination) (i : ℕ) (d : Term) → i < length f → Contains (words_of f) (get_or f i d).word
+word_at f i d less = in_map (λ t. t.word) (get_or f i d) f (Contains-get_or f i d less)
 
 at_other : (t : Term) (f : Combination) (w : List ℕ) → t.word ≢ w → coefficient_at (t ∷ f) w ≡ coefficient_at f w
 at_other t f w other = at (same_letters t.word w) refl
@@ -50,7 +49,7 @@ found_at : (f : Combination) (w : List ℕ) (i : ℕ) (d : Term) → IsRising (w
 found_at [] w i d r less e = absurd (omega arith)
 found_at (t ∷ f) w zero d r less e = ap (λ v. cond (same_letters t.word v) t.coefficient (coefficient_at f v)) (sym e) ∙ ap (λ b. cond b t.coefficient (coefficient_at f t.word)) (same_itself t.word)
 found_at (t ∷ f) w (suc i) d r less e =
-    at_other t f w (λ same. before_all t.word (words_of f) r.0 r.1 (subst (λ v. IsIn v (words_of f)) (e ∙ sym same) (word_at f i d (omega arith))))
+    at_other t f w (λ same. before_all t.word (words_of f) r.0 r.1 (subst (Contains (words_of f)) (e ∙ sym same) (word_at f i d (omega arith))))
     ∙ found_at f w i d r.1 (omega arith) e
 
 absent_at : (f : Combination) (w : List ℕ) → ((i : ℕ) (d : Term) → i < length f → (get_or f i d).word ≢ w) → coefficient_at f w ≡ 0

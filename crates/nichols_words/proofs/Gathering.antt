@@ -10,6 +10,7 @@ use Rattle.nichols_field.proofs.FieldLaws.{plus_assoc, plus_is_element}
 use Rattle.nichols_field.proofs.FieldAlgebra.{plus_chosen}
 use Rattle.nichols_tensor.specs.Combination.{Term, Combination, HasSameValues, value_at, same_letters, words_of, AllElements, without_zeros}
 use Rattle.nichols_tensor.specs.WordOrder.{word_cmp, IsBelowFirst, IsRising, IsOrdered}
+use Rattle.nichols_tensor.proofs.Values.{term_value}
 use Rattle.nichols_tensor.proofs.Order.{same_word, less_back}
 use Rattle.nichols_tensor.proofs.Building.{value_at-without_zeros, all-without_zeros, ordered-without_zeros}
 
@@ -33,17 +34,14 @@ unfolding gathered
 value-gathered k is last [] w = refl
 value-gathered k is last (t ∷ f) w = at (word_cmp t.word last.word) refl (value-gathered k is (added k last t) f w) (value-gathered k is t f w)
   where
-    here : Term → ℕ
-    here s = cond (same_letters s.word w) s.coefficient 0
-
     at : (o : Ordering) → word_cmp t.word last.word ≡ o → value_at k (gathered k (added k last t) f) w ≡ value_at k (added k last t ∷ f) w → value_at k (gathered k t f) w ≡ value_at k (t ∷ f) w →
-        value_at k (cond (is_eq o) (gathered k (added k last t) f) (last ∷ gathered k t f)) w ≡ plus k (cond (same_letters last.word w) last.coefficient 0) (value_at k (t ∷ f) w)
-    at Less e same other = ap (plus k (cond (same_letters last.word w) last.coefficient 0)) other
-    at Greater e same other = ap (plus k (cond (same_letters last.word w) last.coefficient 0)) other
+        value_at k (cond (is_eq o) (gathered k (added k last t) f) (last ∷ gathered k t f)) w ≡ plus k (term_value last w) (value_at k (t ∷ f) w)
+    at Less e same other = ap (plus k (term_value last w)) other
+    at Greater e same other = ap (plus k (term_value last w)) other
     at Equal e same other =
         same ∙ ap (λ n. plus k n (value_at k f w)) (sym (plus_chosen k (same_letters last.word w) last.coefficient t.coefficient is))
-        ∙ plus_assoc k (cond (same_letters last.word w) last.coefficient 0) (cond (same_letters last.word w) t.coefficient 0) (value_at k f w)
-        ∙ ap (λ v. plus k (cond (same_letters last.word w) last.coefficient 0) (plus k (cond (same_letters v w) t.coefficient 0) (value_at k f w))) (sym (same_word t.word last.word e))
+        ∙ plus_assoc k (term_value last w) (cond (same_letters last.word w) t.coefficient 0) (value_at k f w)
+        ∙ ap (λ v. plus k (term_value last w) (plus k (cond (same_letters v w) t.coefficient 0) (value_at k f w))) (sym (same_word t.word last.word e))
 
 elements-gathered : (k : FieldValue) → IsField k → (last : Term) (f : Combination) → IsElement k last.coefficient → AllElements k f → AllElements k (gathered k last f)
 unfolding gathered

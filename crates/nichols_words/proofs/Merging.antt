@@ -1,19 +1,15 @@
 -- The invariant of the merge, and its steps.
-use Rattle.std.proofs.Common.{◌≡◌, ◌≢◌, ℕ, ◌+◌, ◌<◌, Bool, true, false, cond, List, [], ◌∷◌, ◌++◌, length, refl, sym, ◌∙◌, ap, ap₂, arith, subst}
+use Rattle.std.proofs.Common.{◌≡◌, ◌≢◌, ℕ, ◌+◌, ◌<◌, cond, List, [], ◌∷◌, ◌++◌, length, sym, ◌∙◌, ap, ap₂, arith, subst}
 use Rattle.std.proofs.lemmas.List.{append-nil}
 use Rattle.nichols_field.specs.Field.{FieldValue, IsField, IsElement, plus, times}
 use Rattle.nichols_field.proofs.FieldLaws.{plus_assoc, plus_zero, times_zero, times_plus, plus_is_element, times_is_element}
 use Rattle.nichols_field.proofs.FieldAlgebra.{zero_plus, swap_first, swap_middle, times_chosen, plus_chosen}
 use Rattle.nichols_tensor.specs.Combination.{Term, Combination, value_at, same_letters, words_of, AllElements, AllNonzero}
 use Rattle.nichols_tensor.specs.WordOrder.{IsRising, IsOrdered}
-use Rattle.nichols_tensor.proofs.Values.{value_is_element}
+use Rattle.nichols_tensor.proofs.Values.{term_value, zero_term, value_is_element}
 use Rattle.nichols_tensor.proofs.Order.{rising_joined, rising_front, rising_back, rising_without, words_of-push}
 use Rattle.nichols_tensor.proofs.Building.{elements-push, nonzero-push, value_at-push}
 use Rattle.nichols_words.specs.Next.{TakesNext, from_left, from_right, from_both}
-
--- what one term adds at a word
-abbrev pub term_value : Term → List ℕ → ℕ
-term_value t w = cond (same_letters t.word w) t.coefficient 0
 
 -- a sum with a multiple, at a word
 abbrev pub total : FieldValue → ℕ → Combination → Combination → List ℕ → ℕ
@@ -31,13 +27,6 @@ total-next f is by _ _ _ xs ys (from_both {x = x} {y = y} e) w =
     ap (plus f (plus f (term_value x w) (value_at f xs w))) (times_plus f by (term_value y w) (value_at f ys w))
     ∙ swap_middle f (term_value x w) (value_at f xs w) (times f by (term_value y w)) (times f by (value_at f ys w))
     ∙ ap (λ n. plus f n (total f by xs ys w)) (ap (plus f (term_value x w)) (times_chosen f (same_letters y.word w) by y.coefficient is ∙ ap (λ v. cond (same_letters v w) (times f by y.coefficient) 0) (sym e)) ∙ plus_chosen f (same_letters x.word w) x.coefficient (times f by y.coefficient) is)
-
-chosen_zero : (t : Term) (w : List ℕ) → t.coefficient ≡ 0 → term_value t w ≡ 0
-chosen_zero t w e = at (same_letters t.word w) t.coefficient e
-  where
-    at : (b : Bool) (n : ℕ) → n ≡ 0 → cond b n 0 ≡ 0
-    at true n e = e
-    at false n e = refl
 
 -- the next term comes after what was put out, and before what is left on both sides
 rising-next : (f : FieldValue) (by : ℕ) (vs : List (List ℕ)) (xs ys : Combination) (t : Term) (xr yr : Combination) → TakesNext f by xs ys t xr yr →
@@ -102,7 +91,7 @@ merging-skip f is by left right out xs ys t xr yr n zero_there m =
     let e : IsElement f t.coefficient × AllElements f xr × AllElements f yr = elements-next f is by xs ys t xr yr n m.left_elements m.right_elements in
     let r : IsRising (words_of out ++ t.word ∷ words_of xr) × IsRising (words_of out ++ t.word ∷ words_of yr) = rising-next f by (words_of out) xs ys t xr yr n m.left_rising m.right_rising in
     let skipped : (w : List ℕ) → total f by xs ys w ≡ total f by xr yr w =
-    λ w. total-next f is by xs ys t xr yr n w ∙ ap (λ v. plus f v (total f by xr yr w)) (chosen_zero t w zero_there) ∙ zero_plus f (total f by xr yr w) (plus_is_element f (value_at f xr w) (times f by (value_at f yr w)) is) in
+    λ w. total-next f is by xs ys t xr yr n w ∙ ap (λ v. plus f v (total f by xr yr w)) (zero_term t w zero_there) ∙ zero_plus f (total f by xr yr w) (plus_is_element f (value_at f xr w) (times f by (value_at f yr w)) is) in
     record {
       reaches = λ w. ap (plus f (value_at f out w)) (sym (skipped w)) ∙ m.reaches w;
       left_elements = e.1;

@@ -4,6 +4,7 @@ ghost use Rattle.std.specs.Prelude.{◌≡◌, ◌++◌, ◌∷◌, [], IfOk, Is
 ghost use Rattle.std.specs.List.Sorted.{IsSortedByKey};
 ghost use Rattle.std.specs.Result.{OnOk};
 ghost use Rattle.nichols_tensor.specs.Combination.{AllAmong, AllElements, HasSameValues, Term as PlainTerm, without_zeros, words_of};
+ghost use Rattle.nichols_tensor.specs.InOrder.{in_order};
 ghost use Rattle.nichols_tensor.specs.WordOrder.{IsOrdered, word_cmp};
 
 use crate::{Comb, Term};
@@ -11,13 +12,16 @@ use nichols_field::Field;
 use std::alloc::{AllocError, Global};
 
 impl Comb {
-    /// The sum of these terms, which stand in any order; a word may stand in several of them, and a coefficient may be 0.
+    /// The sum of these terms, brought into order; a word may stand in several of them, and a coefficient may be 0.
     ///
     /// The terms are sorted where they stand and summed up in one pass, so that n terms take about n log n steps.
     pub fn sum_of(alloc: Global, field: Field, terms: &mut [Term]) -> Result<Comb, AllocError>
         requires { AllElements field terms.old }
         ensures permutation { IsPermutation terms.old terms.new }
         ensures sorted { IsSortedByKey (λ (t : PlainTerm). t.word) word_cmp terms.new }
+        ensures in_order { IfOk result (λ r. r ≡ in_order field terms.old) }
+
+        // What holds of the one combination in order with these values.
         ensures value { IfOk result (λ r. HasSameValues field r terms.old) }
         ensures shape { IfOk result IsOrdered }
         ensures elements { IfOk result (AllElements field) }

@@ -1,35 +1,34 @@
-//! Words of at most 60 letters, kept inline.
+//! Words, kept inline.
 
 ghost use Rattle.std.specs.Prelude.{◌≡◌, ◌<◌, ◌≤◌, ◌↔◌, ◌++◌, ◌∷◌, [], IsTrue, length, take, slice_index, slice_set};
 ghost use Rattle.std.specs.Bool.{OnTrue, OnFalse};
-ghost use Rattle.nichols_tensor.specs.Words.{IsLetterOf, letter_limit};
-ghost use Rattle.nichols_words.specs.Word.{IsWord, word_limit};
+ghost use Rattle.nichols_tensor.specs.declared.TheConstants.{LETTER_LIMIT, WORD_LIMIT};
+ghost use Rattle.nichols_tensor.specs.Words.{IsLetterOf};
+ghost use Rattle.nichols_words.specs.Word.{IsWord};
 
+use nichols_tensor::{LETTER_LIMIT, WORD_LIMIT};
 use std::marker::Model;
 
-/// The most letters of a word.
-const LETTERS_MOST: usize = 60;
-
-/// A word of at most 60 letters, each of them from 1 to 24.
+/// A word of at most [`WORD_LIMIT`] letters, each of them from 1 to [`LETTER_LIMIT`].
 ///
 /// Words are ordered by length, and words of one length by their letters from the left.
 #[derive(Clone, Copy)]
 pub struct Word {
     len: u32,
-    letters: [u8; LETTERS_MOST],
+    letters: [u8; WORD_LIMIT],
 }
 
 impl Model for Word {
     ghost use Rattle.std.specs.Prelude.{ℕ, List, take};
+    ghost use Rattle.nichols_tensor.specs.declared.TheConstants.{LETTER_LIMIT, WORD_LIMIT};
     ghost use Rattle.nichols_tensor.specs.Inline.{IsInline};
-    ghost use Rattle.nichols_tensor.specs.Words.{IsWordOver, letter_limit};
-    ghost use Rattle.nichols_words.specs.Word.{word_limit};
+    ghost use Rattle.nichols_tensor.specs.Words.{IsWordOver};
 
     ghost Value = { List ℕ };
 
     ghost view = { λ w. take w.len w.letters };
 
-    ghost invariant = { λ w. IsInline word_limit (IsWordOver letter_limit) w.len w.letters };
+    ghost invariant = { λ w. IsInline WORD_LIMIT (IsWordOver LETTER_LIMIT) w.len w.letters };
 
     ghost use Rattle.nichols_words.specs.Fields.{fields_of, fields_back};
 
@@ -45,14 +44,14 @@ impl Word {
     {
         Word {
             len: 0,
-            letters: [0; LETTERS_MOST],
+            letters: [0; WORD_LIMIT],
         }
     }
 
     /// The number of letters.
     pub fn len(&self) -> usize
         ensures value { result ≡ length self.now }
-        ensures limit { result ≤ word_limit }
+        ensures limit { result ≤ WORD_LIMIT }
     {
         self.len as usize
     }
@@ -68,7 +67,7 @@ impl Word {
     pub fn letter(&self, k: usize) -> u8
         requires { k < length self.now }
         ensures value { result ≡ slice_index self.now k }
-        ensures letter { IsLetterOf letter_limit result }
+        ensures letter { IsLetterOf LETTER_LIMIT result }
     {
         self.letters[k]
     }
@@ -99,20 +98,20 @@ impl Word {
     /// Puts another letter in the place of that at index k, which counts from 0.
     pub fn set(&mut self, k: usize, letter: u8)
         requires within { k < length self.old }
-        requires letter { IsLetterOf letter_limit letter }
+        requires letter { IsLetterOf LETTER_LIMIT letter }
         ensures { self.new ≡ slice_set self.old k letter }
     {
         self.letters[k] = letter;
     }
 
-    /// Puts a letter behind the others. A full word, of 60 letters, stays as it is, and the answer is false.
+    /// Puts a letter behind the others. A full word, of [`WORD_LIMIT`] letters, stays as it is, and the answer is false.
     pub fn push(&mut self, letter: u8) -> bool
-        requires { IsLetterOf letter_limit letter }
-        ensures room { IsTrue result ↔ (length self.old < word_limit) }
+        requires { IsLetterOf LETTER_LIMIT letter }
+        ensures room { IsTrue result ↔ (length self.old < WORD_LIMIT) }
         ensures pushed { OnTrue result (self.new ≡ self.old ++ letter ∷ []) }
         ensures full { OnFalse result (self.new ≡ self.old) }
     {
-        if self.len as usize == LETTERS_MOST {
+        if self.len as usize == WORD_LIMIT {
             return false;
         }
         self.letters[self.len as usize] = letter;
@@ -122,8 +121,8 @@ impl Word {
 
     /// The word with a letter behind.
     pub fn followed_by(&self, letter: u8) -> Word
-        requires room { length self.now < word_limit }
-        requires letter { IsLetterOf letter_limit letter }
+        requires room { length self.now < WORD_LIMIT }
+        requires letter { IsLetterOf LETTER_LIMIT letter }
         ensures { result ≡ self.now ++ letter ∷ [] }
     {
         let mut longer = *self;
