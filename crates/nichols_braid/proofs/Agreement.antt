@@ -1,9 +1,8 @@
 -- Two tests that agree on the combinations of words of each degree: all that is read in them is the same.
 use Rattle.std.proofs.Common.{◌≡◌, ℕ, zero, suc, not, List, [], ◌∷◌, ◌++◌, map, length, refl, ◌∙◌, ap}
 use Rattle.std.specs.Prelude.{unwrap_or, find}
-use Rattle.std.specs.List.{flat_map, filter}
+use Rattle.std.specs.List.{flat_map, filter, Contains}
 use Rattle.nichols_field.specs.Field.{FieldValue, negative}
-use Rattle.nichols_tensor.specs.Members.{IsIn}
 use Rattle.nichols_tensor.specs.Combination.{Combination, AllAmong, single, scaled, minus, without_zeros}
 use Rattle.nichols_tensor.specs.Words.{up_to, IsWordOver, IsOver, HasDegree, words, words_before, combinations}
 use Rattle.nichols_tensor.proofs.Entries.{from_filter}
@@ -75,7 +74,7 @@ relations_agree vanishes other braid agree m =
         filter_same (λ w. not (is_least vanishes braid w)) (λ w. not (is_least other braid w)) (candidates other braid m)
         (λ w i. ap not (least_agrees vanishes other braid agree w (from_candidates other braid m w i).1))
 
-    degree : (w : List ℕ) → IsIn w (filter (λ w. not (is_least other braid w)) (candidates other braid m)) → (length w ≡ m) × IsWordOver braid.letters w
+    degree : (w : List ℕ) → Contains (filter (λ w. not (is_least other braid w)) (candidates other braid m)) w → (length w ≡ m) × IsWordOver braid.letters w
     degree w i = from_candidates other braid m w (from_filter (λ v. not (is_least other braid v)) w (candidates other braid m) i).0
 
 -- all of it

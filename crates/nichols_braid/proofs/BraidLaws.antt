@@ -6,7 +6,7 @@ use Rattle.nichols_tensor.proofs.Linear.{same_images, extended-append, extended-
 use Rattle.nichols_braid.specs.Symmetrizer.{lifts}
 use Rattle.nichols_braid.specs.Derivation.{derived_word}
 use Rattle.nichols_braid.specs.LinearMap.{IsLinearMap}
-use Rattle.nichols_braid.specs.Laws.{SymmetrizerIsLinear, DerivationsAreLinear, DerivationRule, KilledIsRightIdeal, KilledIsDecided, KernelIsDecided, KilledIsLinear, KernelIsLinear, KilledIsIdeal}
+use Rattle.nichols_braid.specs.Laws.{SymmetrizerIsLinear, DerivationsAreLinear, DerivationRule, KilledIsRightIdeal, KilledIsDecided, KernelIsDecided, KilledIsLinear, KernelIsLinear, KilledIsIdealFromRight}
 use Rattle.nichols_braid.proofs.Rule.{derived-times_letter}
 use Rattle.nichols_braid.proofs.Prefixes.{is_killed_is_ideal}
 use Rattle.nichols_braid.proofs.Killed.{killed-times_letter, is_killed_sound, is_killed_complete, is_in_kernel_sound, is_in_kernel_complete, is_killed_is_linear, is_in_kernel_is_linear}
@@ -42,5 +42,5 @@ killed_is_linear braid is m = is_killed_is_linear braid is.field m
 pub kernel_is_linear : KernelIsLinear
 kernel_is_linear braid is m = is_in_kernel_is_linear braid is.field m
 
-pub killed_is_ideal : KilledIsIdeal
-killed_is_ideal braid is = is_killed_is_ideal braid is.field is.rack
+pub killed_is_ideal_from_right : KilledIsIdealFromRight
+killed_is_ideal_from_right braid is = is_killed_is_ideal braid is.field is.rack

@@ -1,12 +1,11 @@
 -- Candidates: they are words of their degree, and rise.
 use Rattle.std.proofs.Common.{◌≡◌, ℕ, zero, suc, ◌+◌, ◌<◌, true, not, List, [], ◌∷◌, ◌++◌, map, length, refl, sym, ◌∙◌, ap, subst, arith, inl, inr, length-append}
-use Rattle.std.specs.List.{filter, AllByRecursion}
+use Rattle.std.specs.List.{filter, AllByRecursion, Contains}
 use Rattle.std.specs.declared.cmp.Ordering.TheVariants.{Less}
-use Rattle.nichols_tensor.specs.Members.{IsIn}
 use Rattle.nichols_tensor.specs.Combination.{single}
 use Rattle.nichols_tensor.specs.Words.{up_to, IsWordOver, with_letters}
 use Rattle.nichols_tensor.specs.WordOrder.{word_cmp, IsBelowFirst, IsRising}
-use Rattle.nichols_tensor.proofs.Entries.{in_map, in_flat_map, from_map, from_flat_map}
+use Rattle.nichols_tensor.proofs.Entries.{contains_none, contains_cases, in_map, in_flat_map, from_map, from_flat_map}
 use Rattle.nichols_tensor.proofs.Letters.{in_up_to, from_up_to}
 use Rattle.nichols_tensor.proofs.Over.{word_over-append}
 use Rattle.nichols_tensor.proofs.Rising.{AllOrdered, all_ordered_words, rising-flat_map}
@@ -29,15 +28,18 @@ pub candidates_next : (vanishes : Vanishing) (braid : BraidValue) (m : ℕ) → 
 unfolding candidates
 candidates_next vanishes braid m = refl
 
-pub in_candidates : (vanishes : Vanishing) (braid : BraidValue) (m : ℕ) (u : List ℕ) (b : ℕ) → IsIn u (basis vanishes braid m) → IsLetter braid b → IsIn (u ++ b ∷ []) (candidates vanishes braid (suc m))
+pub in_candidates : (vanishes : Vanishing) (braid : BraidValue) (m : ℕ) (u : List ℕ) (b : ℕ) → Contains (basis vanishes braid m) u → IsLetter braid b → Contains (candidates vanishes braid (suc m)) (u ++ b ∷ [])
 unfolding candidates
 in_candidates vanishes braid m u b i letter =
     in_flat_map (λ v. map (λ a. v ++ a ∷ []) (up_to braid.letters)) u (basis vanishes braid m) (u ++ b ∷ []) i (in_map (λ a. u ++ a ∷ []) b (up_to braid.letters) (in_up_to braid.letters b letter))
 
-pub from_candidates : (vanishes : Vanishing) (braid : BraidValue) (m : ℕ) (w : List ℕ) → IsIn w (candidates vanishes braid m) → (length w ≡ m) × IsWordOver braid.letters w
-unfolding candidates IsIn
-from_candidates vanishes braid zero w (inl e) = (ap length e, subst (IsWordOver braid.letters) (sym e) tt)
-from_candidates vanishes braid zero w (inr i) = absurd i
+pub from_candidates : (vanishes : Vanishing) (braid : BraidValue) (m : ℕ) (w : List ℕ) → Contains (candidates vanishes braid m) w → (length w ≡ m) × IsWordOver braid.letters w
+unfolding candidates
+from_candidates vanishes braid zero w i =
+    elim (contains_cases [] [] w i) [
+      | inl e ↦ (ap length e, subst (IsWordOver braid.letters) (sym e) tt)
+      | inr none ↦ absurd (contains_none w none)
+    ]
 from_candidates vanishes braid (suc m) w i =
     let (u, j, k) = from_flat_map (λ v. map (λ a. v ++ a ∷ []) (up_to braid.letters)) w (basis vanishes braid m) i in
     let (b, l, e) = from_map (λ a. u ++ a ∷ []) w (up_to braid.letters) k in

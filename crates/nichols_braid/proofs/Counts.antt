@@ -1,11 +1,11 @@
 -- Lists of numbers that hold each number equally often are rearrangements of one another.
 use Rattle.std.proofs.Common.{◌≡◌, ℕ, ◌+◌, ◌<◌, Bool, true, false, cond, List, [], ◌∷◌, ◌++◌, refl, sym, ◌∙◌, ap, arith, subst, nat_eq, ◌⊎◌, inl, inr}
-use Rattle.std.specs.List.{sum_by}
+use Rattle.std.specs.List.{sum_by, Contains}
 use Rattle.std.specs.List.Sorted.{IsPermutation}
 use Rattle.std.proofs.lemmas.Bool.Decides.{nat_tests}
 use Rattle.std.proofs.lemmas.List.Sums.{sum_by-cons}
 use Rattle.std.proofs.lemmas.List.Sorted.{IsPermutation-refl, IsPermutation-cons, IsPermutation-sym, IsPermutation-trans, IsPermutation-middle, sum_by-IsPermutation}
-use Rattle.nichols_tensor.specs.Members.{IsIn}
+use Rattle.nichols_tensor.proofs.Entries.{contains_none, contains_first, contains_later, contains_cases}
 
 -- how often a stands in the list
 count : ℕ → List ℕ → ℕ
@@ -30,20 +30,22 @@ count_itself x xs = let e : count x (x ∷ xs) ≡ cond (nat_eq x x) 1 0 + count
     at true h e = omega arith
     at false h e = cc
 
-pub in_front_and_rest : (x : ℕ) (xs : List ℕ) → IsIn x xs → (front : List ℕ) × (rest : List ℕ) × (xs ≡ front ++ x ∷ rest)
-unfolding IsIn
-in_front_and_rest x [] h = absurd h
-in_front_and_rest x (y ∷ xs) (inl e) = ([], xs, ap (λ z. z ∷ xs) (sym e))
-in_front_and_rest x (y ∷ xs) (inr h) = let (front, rest, e) = in_front_and_rest x xs h in (y ∷ front, rest, ap (λ z. y ∷ z) e)
+pub in_front_and_rest : (x : ℕ) (xs : List ℕ) → Contains xs x → (front : List ℕ) × (rest : List ℕ) × (xs ≡ front ++ x ∷ rest)
+in_front_and_rest x [] h = absurd (contains_none x h)
+in_front_and_rest x (y ∷ xs) h = at (contains_cases y xs x h) (λ i. in_front_and_rest x xs i)
+  where
+    at : (x ≡ y) ⊎ Contains xs x → (Contains xs x → (front : List ℕ) × (rest : List ℕ) × (xs ≡ front ++ x ∷ rest)) → (front : List ℕ) × (rest : List ℕ) × (y ∷ xs ≡ front ++ x ∷ rest)
+    at (inl e) later = ([], xs, ap (λ z. z ∷ xs) (sym e))
+    at (inr i) later = let (front, rest, e) = later i in (y ∷ front, rest, ap (λ z. y ∷ z) e)
 
-counted_is_in : (x : ℕ) (xs : List ℕ) → 0 < count x xs → IsIn x xs
-unfolding IsIn count
+counted_is_in : (x : ℕ) (xs : List ℕ) → 0 < count x xs → Contains xs x
+unfolding count
 counted_is_in x [] h = absurd (let e : count x [] ≡ 0 = empty_count x in omega arith)
 counted_is_in x (y ∷ xs) h = at (nat_eq x y) (grind (arith, nat_tests)) (subst (λ n. 0 < n) (count-cons x y xs) h) (λ k. counted_is_in x xs k)
   where
-    at : (t : Bool) → (t ≡ true → x ≡ y) → 0 < cond t 1 0 + count x xs → (0 < count x xs → IsIn x xs) → (x ≡ y) ⊎ IsIn x xs
-    at true e h rest = inl (e refl)
-    at false e h rest = inr (rest (omega arith))
+    at : (t : Bool) → (t ≡ true → x ≡ y) → 0 < cond t 1 0 + count x xs → (0 < count x xs → Contains xs x) → Contains (y ∷ xs) x
+    at true e h rest = subst (Contains (y ∷ xs)) (sym (e refl)) (contains_first y xs)
+    at false e h rest = contains_later y xs x (rest (omega arith))
 
 rearranged_from_counts : (xs ys : List ℕ) → ((a : ℕ) → count a xs ≡ count a ys) → IsPermutation xs ys
 rearranged_from_counts [] [] h = IsPermutation-refl []

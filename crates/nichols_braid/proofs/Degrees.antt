@@ -30,7 +30,7 @@ words-extended P Q k image h [] all = tt
 words-extended P Q k image h (t ∷ f) all =
     words-append Q (scaled k t.coefficient (image t.word)) (extended k image f) (words-scaled Q k t.coefficient (image t.word) (h t.word all.0)) (words-extended P Q k image h f all.1)
 
-words-prefixed : (P Q : List ℕ → Type 0) (x : ℕ) → ((w : List ℕ) → P w → Q (x ∷ w)) → (f : Combination) → AllWords P f → AllWords Q (map (λ t. record { word = x ∷ t.word; coefficient = t.coefficient }) f)
+pub words-prefixed : (P Q : List ℕ → Type 0) (x : ℕ) → ((w : List ℕ) → P w → Q (x ∷ w)) → (f : Combination) → AllWords P f → AllWords Q (map (λ t. record { word = x ∷ t.word; coefficient = t.coefficient }) f)
 words-prefixed P Q x h [] all = tt
 words-prefixed P Q x h (t ∷ f) all = (h t.word all.0, words-prefixed P Q x h f all.1)
 

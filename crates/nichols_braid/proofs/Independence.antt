@@ -1,19 +1,20 @@
 -- The least words are independent: a combination of them that passes a linear test is zero.
 use Rattle.std.proofs.Common.{◌≡◌, ◌≢◌, ℕ, Bool, true, false, not, cond, List, [], ◌∷◌, ◌++◌, length, refl, sym, ◌∙◌, ap, subst, nat_eq, inl, inr, append_assoc}
+use Rattle.std.specs.List.{Contains}
 use Rattle.std.proofs.lemmas.List.{append-nil}
+use Rattle.std.proofs.lemmas.List.Elements.{Contains-append_left, Contains-push_cases}
 use Rattle.std.proofs.lemmas.Bool.Decides.{Decides-eqb}
 use Rattle.nichols_field.specs.Field.{FieldValue, IsField, plus, times, negative}
 use Rattle.nichols_field.proofs.FieldLaws.{times_comm, times_assoc, times_plus, times_is_element, has_reciprocal}
 use Rattle.nichols_field.proofs.FieldAlgebra.{zero_plus, zero_times, one_times, negative_twice}
-use Rattle.nichols_tensor.specs.Members.{IsIn}
 use Rattle.nichols_tensor.specs.Combination.{Combination, value_at, HasSameValues, IsZero, AllAmong, single, scaled, minus, same_letters}
 use Rattle.nichols_tensor.specs.Words.{IsWordOver, words_before}
 use Rattle.nichols_tensor.specs.WordOrder.{IsRising}
-use Rattle.nichols_tensor.proofs.Entries.{in_either, in_left, in_right}
 use Rattle.nichols_tensor.proofs.Values.{value_is_element, value_at-scaled, value_at-minus, value_at-extended, weight, weight_split, without, same_itself}
 use Rattle.nichols_tensor.proofs.Linear.{same_from_minus}
 use Rattle.nichols_tensor.proofs.Enumeration.{among_weaker, among-append, among-scaled}
-use Rattle.nichols_tensor.proofs.Rising.{stands_before}
+use Rattle.nichols_tensor.proofs.Entries.{contains_none}
+use Rattle.nichols_tensor.proofs.Rising.{in_middle, stands_before}
 use Rattle.nichols_tensor.proofs.AllWords.{in_words_before}
 use Rattle.nichols_braid.specs.Braid.{BraidValue}
 use Rattle.nichols_braid.specs.Kernel.{Vanishing}
@@ -36,18 +37,15 @@ value_split k is w f u =
     ∙ ap (plus k (times k (value_at k f w) (value_at k (single w) u))) (sym (value_as_weight k is (without w f) u))
 
 other_words : (w : List ℕ) (f : Combination) (ws : List (List ℕ)) → AllAmong f (ws ++ w ∷ []) → AllAmong (without w f) ws
-unfolding AllAmong IsIn
+unfolding AllAmong
 other_words w [] ws h = tt
 other_words w (t ∷ f) ws h = at (same_letters t.word w) refl (other_words w f ws h.1)
   where
-    other : same_letters t.word w ≡ false → IsIn t.word ws
+    other : same_letters t.word w ≡ false → Contains ws t.word
     other d =
-        elim (in_either t.word ws (w ∷ []) h.0) [
+        elim (Contains-push_cases ws w t.word h.0) [
           | inl i ↦ i
-          | inr i ↦ elim i [
-            | inl e ↦ absurd (let c : true ≡ false = sym (same_itself t.word) ∙ ap (same_letters t.word) e ∙ d in cc)
-            | inr none ↦ absurd none
-          ]
+          | inr e ↦ absurd (let c : true ≡ false = sym (same_itself t.word) ∙ ap (same_letters t.word) (sym e) ∙ d in cc)
         ]
 
     at : (b : Bool) → same_letters t.word w ≡ b → AllAmong (without w f) ws → AllAmong (cond (not b) (t ∷ without w f) (without w f)) ws
@@ -81,7 +79,6 @@ IsIndependent k test ws = (f : Combination) → AllAmong f ws → test f ≡ tru
 
 one_more : (vanishes : Vanishing) (braid : BraidValue) → IsField braid.field → (m : ℕ) → IsLinearTest braid.field (vanishes braid m) → (vs : List (List ℕ)) (w : List ℕ) (us : List (List ℕ)) →
     basis vanishes braid m ≡ vs ++ w ∷ us → IsIndependent braid.field (vanishes braid m) vs → IsIndependent braid.field (vanishes braid m) (vs ++ w ∷ [])
-unfolding IsIn
 one_more vanishes braid is m l vs w us e independent f among h = at (nat_eq (value_at k f w) 0) refl
   where
     k : FieldValue
@@ -90,15 +87,15 @@ one_more vanishes braid is m l vs w us e independent f among h = at (nat_eq (val
     others : AllAmong (without w f) vs
     others = other_words w f vs among
 
-    from : (v : List ℕ) → IsIn v (vs ++ w ∷ us) → (length v ≡ m) × IsWordOver braid.letters v × (is_least vanishes braid v ≡ true)
-    from v i = from_basis vanishes braid m v (subst (IsIn v) (sym e) i)
+    from : (v : List ℕ) → Contains (vs ++ w ∷ us) v → (length v ≡ m) × IsWordOver braid.letters v × (is_least vanishes braid v ≡ true)
+    from v i = from_basis vanishes braid m v (subst (λ ws. Contains ws v) (sym e) i)
 
     last : (length w ≡ m) × IsWordOver braid.letters w × (is_least vanishes braid w ≡ true)
-    last = from w (in_right w vs (w ∷ us) (inl refl))
+    last = from w (in_middle vs w us)
 
-    before : (v : List ℕ) → IsIn v vs → IsIn v (words_before braid.letters w)
+    before : (v : List ℕ) → Contains vs v → Contains (words_before braid.letters w) v
     before v i =
-        let own : (length v ≡ m) × IsWordOver braid.letters v × (is_least vanishes braid v ≡ true) = from v (in_left v vs (w ∷ us) i) in
+        let own : (length v ≡ m) × IsWordOver braid.letters v × (is_least vanishes braid v ≡ true) = from v (Contains-append_left vs (w ∷ us) v i) in
         in_words_before braid.letters v w (own.0 ∙ sym last.0) own.1 (stands_before vs w us v (subst IsRising e (basis_rises vanishes braid m)) i)
 
     nonzero : value_at k f w ≢ 0 → IsZero k f
@@ -127,12 +124,12 @@ from_front vanishes braid is m l vs (w ∷ us) e independent f among h =
 
 -- a combination of least words that passes is zero
 pub basis_is_independent : (vanishes : Vanishing) (braid : BraidValue) → IsField braid.field → (m : ℕ) → IsLinearTest braid.field (vanishes braid m) → (f : Combination) → AllAmong f (basis vanishes braid m) → vanishes braid m f ≡ true → IsZero braid.field f
-unfolding AllAmong IsIn
+unfolding AllAmong
 basis_is_independent vanishes braid is m l f among h = from_front vanishes braid is m l [] (basis vanishes braid m) refl nothing f among h
   where
     nothing : IsIndependent braid.field (vanishes braid m) []
     nothing [] a p = λ w. refl
-    nothing (t ∷ f) a p = absurd a.0
+    nothing (t ∷ f) a p = absurd (contains_none t.word a.0)
 
 -- combinations of least words that are congruent have the same values
 pub same_on_basis : (vanishes : Vanishing) (braid : BraidValue) → IsField braid.field → (m : ℕ) → IsLinearTest braid.field (vanishes braid m) → (f g : Combination) → AllAmong f (basis vanishes braid m) → AllAmong g (basis vanishes braid m) →

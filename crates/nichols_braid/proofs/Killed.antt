@@ -6,7 +6,8 @@ use Rattle.nichols_field.proofs.FieldLaws.{plus_zero, times_zero, zero_is_elemen
 use Rattle.nichols_tensor.specs.Combination.{Combination, value_at, HasSameValues, IsZero, scaled}
 use Rattle.nichols_tensor.specs.Words.{up_to}
 use Rattle.nichols_tensor.proofs.Entries.{each_of, of_each}
-use Rattle.nichols_tensor.proofs.Values.{value_at-append, value_at-scaled, is_zero_sound, is_zero_complete}
+use Rattle.nichols_tensor.proofs.Values.{value_at-append, value_at-scaled}
+use Rattle.nichols_tensor.proofs.Zero.{is_zero_sound, is_zero_complete}
 use Rattle.nichols_tensor.proofs.Linear.{same_images, extended-append, extended-scaled, extended_is_zero}
 use Rattle.nichols_tensor.proofs.Letters.{in_up_to, from_up_to}
 use Rattle.nichols_braid.specs.Braid.{BraidValue, IsLetter, IsRack, act, scalar}
@@ -47,7 +48,7 @@ killed-scaled braid is (suc m) c f h = λ a l.
 
 -- ---- the right ideal
 
-killed_chosen : (braid : BraidValue) → IsField braid.field → (m : ℕ) (c : Bool) (f : Combination) → IsKilled braid m f → IsKilled braid m (if c then f else [])
+pub killed_chosen : (braid : BraidValue) → IsField braid.field → (m : ℕ) (c : Bool) (f : Combination) → IsKilled braid m f → IsKilled braid m (if c then f else [])
 killed_chosen braid is m true f h = h
 killed_chosen braid is m false f h = killed_zero braid is m [] (λ w. refl)
 
@@ -92,10 +93,10 @@ is_killed_is_linear braid is m = record {
   keeps_multiples = λ c f h. is_killed_complete braid m (scaled braid.field c f) (killed-scaled braid is m c f (is_killed_sound braid is m f h));
 }
 
-kernel_same : (braid : BraidValue) → IsField braid.field → (f g : Combination) → HasSameValues braid.field f g → IsInKernel braid f → IsInKernel braid g
+pub kernel_same : (braid : BraidValue) → IsField braid.field → (f g : Combination) → HasSameValues braid.field f g → IsInKernel braid f → IsInKernel braid g
 kernel_same braid is f g same h w = sym (same_images braid.field is (lifts braid) f g same w) ∙ h w
 
-kernel-append : (braid : BraidValue) → IsField braid.field → (f g : Combination) → IsInKernel braid f → IsInKernel braid g → IsInKernel braid (f ++ g)
+pub kernel-append : (braid : BraidValue) → IsField braid.field → (f g : Combination) → IsInKernel braid f → IsInKernel braid g → IsInKernel braid (f ++ g)
 kernel-append braid is f g h l w =
     ap (λ x. value_at braid.field x w) (extended-append braid.field (lifts braid) f g) ∙ zero-append braid.field is (symmetrized braid f) (symmetrized braid g) h l w
 

@@ -2,6 +2,7 @@
 use Rattle.std.proofs.Common.{◌≡◌, ℕ, Bool, true, false, not, List, [], ◌∷◌, length, refl, sym, ◌∙◌, ap, subst}
 use Rattle.std.specs.List.{AllByRecursion}
 use Rattle.std.specs.declared.cmp.Ordering.TheVariants.{Less}
+use Rattle.std.proofs.lemmas.Bool.{not-false}
 use Rattle.nichols_field.specs.Field.{IsField}
 use Rattle.nichols_tensor.specs.Combination.{Combination, AllElements, AllAmong, single}
 use Rattle.nichols_tensor.specs.Words.{IsOver, HasDegree, words_before, combinations}
@@ -31,12 +32,8 @@ pub not_least_form : (vanishes : Vanishing) (braid : BraidValue) (w : List ℕ) 
 unfolding is_least are_congruent
 not_least_form vanishes braid w h =
     let before : List (List ℕ) = words_before braid.letters w in
-    let (f, i, e) = some_of (are_congruent vanishes braid (length w) (single w)) (combinations braid.field before) (some_where _ h) in
+    let (f, i, e) = some_of (are_congruent vanishes braid (length w) (single w)) (combinations braid.field before) (not-false _ h) in
     (f, among_from_words f before (enumerated_words braid.field before f i), enumerated_elements braid.field before f i, e)
-  where
-    some_where : (b : Bool) → not b ≡ false → b ≡ true
-    some_where true h = refl
-    some_where false h = cc
 
 -- a least word is congruent to no such combination
 pub least_refutes : (vanishes : Vanishing) (braid : BraidValue) → IsField braid.field → (w : List ℕ) → IsLinearTest braid.field (vanishes braid (length w)) → is_least vanishes braid w ≡ true →

@@ -1,9 +1,15 @@
 mod WorkedRows
-pub mod Prepend
-pub mod Entries
+mod WorkedTwisted
+mod WorkedSides
 pub mod Search
-pub mod Accepted
-pub mod Made
+pub mod FirstAnswers
+pub mod FirstPlaces
+pub mod GivenRows
+pub mod FirstFault
+pub mod TableSteps
+pub mod RowFaults
+pub mod NewBraid
+pub mod TestedTables
 pub mod Lists
 pub mod Maps
 pub mod Rule
@@ -14,6 +20,15 @@ pub mod Counts
 pub mod Permutations
 pub mod Degrees
 pub mod Prefixes
+pub mod Products
+pub mod LeftProducts
+pub mod Onto
+pub mod Carried
+pub mod LeftIdeal
+pub mod Suffixes
+pub mod LeftLaws
+pub mod SplitByProduct
+pub mod ProductLaws
 pub mod Congruences
 pub mod LeastWords
 pub mod Reduction
@@ -22,8 +37,18 @@ pub mod NormalForms
 pub mod Candidates
 pub mod Agreement
 pub mod Spanning
+pub mod NewWords
+pub mod SideForms
+pub mod NewWordLaws
 pub mod LeastLaws
+pub mod Forms
+pub mod LookingBack
+pub mod FormsOfCandidates
+pub mod FormsOfDerivatives
 pub mod EndLaws
+pub mod WholeKernel
+pub mod WholeForms
 pub mod FirstDegree
 pub mod Complete
 pub mod AsGiven
+pub mod NamedFaults

@@ -1,9 +1,9 @@
 -- Normal forms: each combination of words of m letters has exactly one, which sees the class alone and is linear.
 use Rattle.std.proofs.Common.{◌≡◌, ◌≢◌, ℕ, Bool, true, List, [], ◌++◌, length, refl, sym, ap, subst}
 use Rattle.std.specs.Prelude.{unwrap_or}
+use Rattle.std.specs.List.{Contains}
 use Rattle.nichols_field.specs.Field.{FieldValue, IsField}
 use Rattle.nichols_field.proofs.FieldLaws.{one_is_element}
-use Rattle.nichols_tensor.specs.Members.{IsIn}
 use Rattle.nichols_tensor.specs.Combination.{Combination, HasSameValues, AllElements, AllAmong, words_of, single, scaled, without_zeros}
 use Rattle.nichols_tensor.specs.Words.{IsWordOver, IsOver, HasDegree, combinations}
 use Rattle.nichols_tensor.specs.WordOrder.{IsRising}
@@ -27,14 +27,14 @@ use Rattle.nichols_braid.proofs.Independence.{same_on_basis}
 
 -- an enumerated combination of least words that is congruent to f is a normal form without its zeros
 form_from_enumerated : (vanishes : Vanishing) (braid : BraidValue) → IsField braid.field → (m : ℕ) → IsLinearTest braid.field (vanishes braid m) → (f g : Combination) →
-    IsIn g (combinations braid.field (basis vanishes braid m)) → AreCongruent braid.field (vanishes braid m) f g → IsNormalForm vanishes braid m f (without_zeros g)
+    Contains (combinations braid.field (basis vanishes braid m)) g → AreCongruent braid.field (vanishes braid m) f g → IsNormalForm vanishes braid m f (without_zeros g)
 unfolding AllAmong
 form_from_enumerated vanishes braid is m l f g i h =
     let k : FieldValue = braid.field in
     let ws : List (List ℕ) = basis vanishes braid m in
     let own : words_of g ≡ ws = enumerated_words k ws g i in
     record {
-      least = all-without_zeros (λ t. IsIn t.word ws) g (among_from_words g ws own);
+      least = all-without_zeros (λ t. Contains ws t.word) g (among_from_words g ws own);
       ordered = ordered-without_zeros g (subst IsRising (sym own) (basis_rises vanishes braid m));
       elements = elements_kept;
       congruent = congruent_right k is (vanishes braid m) l f g (without_zeros g) (λ w. sym (value_at-without_zeros k is g w)) h;
@@ -119,7 +119,7 @@ zero_of_form vanishes braid is m l f degree over e =
     zero_congruent braid.field is (vanishes braid m) l f (subst (AreCongruent braid.field (vanishes braid m) f) e p.congruent)
 
 pub form_of_least : (vanishes : Vanishing) (braid : BraidValue) → IsField braid.field → (m : ℕ) → IsLinearTest braid.field (vanishes braid m) → (w : List ℕ) →
-    IsIn w (basis vanishes braid m) → normal_form vanishes braid m (single w) ≡ single w
+    Contains (basis vanishes braid m) w → normal_form vanishes braid m (single w) ≡ single w
 unfolding AllAmong
 form_of_least vanishes braid is m l w i =
     form_is vanishes braid is m l (single w) (single w) (record {

@@ -1,10 +1,9 @@
 -- The least words span: each combination of words of m letters is congruent to one of least words, and a word to one of least
 -- words that don't stand behind it.
 use Rattle.std.proofs.Common.{◌≡◌, ℕ, Bool, true, false, List, [], ◌∷◌, length, refl, ◌∙◌, ap, ◌⊎◌, inl, inr}
-use Rattle.std.specs.List.{AllByRecursion}
+use Rattle.std.specs.List.{AllByRecursion, Contains}
 use Rattle.std.specs.declared.cmp.Ordering.TheVariants.{Less}
 use Rattle.nichols_field.specs.Field.{FieldValue, IsField}
-use Rattle.nichols_tensor.specs.Members.{IsIn}
 use Rattle.nichols_tensor.specs.Combination.{Combination, AllElements, AllAmong, single}
 use Rattle.nichols_tensor.specs.Words.{IsWordOver, words, words_before}
 use Rattle.nichols_tensor.specs.WordOrder.{word_cmp, IsRising}
@@ -21,11 +20,11 @@ use Rattle.nichols_braid.proofs.LeastWords.{not_least_form_at}
 
 -- ---- the basis
 
-pub in_basis : (vanishes : Vanishing) (braid : BraidValue) (m : ℕ) (w : List ℕ) → length w ≡ m → IsWordOver braid.letters w → is_least vanishes braid w ≡ true → IsIn w (basis vanishes braid m)
+pub in_basis : (vanishes : Vanishing) (braid : BraidValue) (m : ℕ) (w : List ℕ) → length w ≡ m → IsWordOver braid.letters w → is_least vanishes braid w ≡ true → Contains (basis vanishes braid m) w
 unfolding basis
 in_basis vanishes braid m w e o least = in_filter (is_least vanishes braid) w (words braid.letters m) (in_words braid.letters m w e o) least
 
-pub from_basis : (vanishes : Vanishing) (braid : BraidValue) (m : ℕ) (w : List ℕ) → IsIn w (basis vanishes braid m) → (length w ≡ m) × IsWordOver braid.letters w × (is_least vanishes braid w ≡ true)
+pub from_basis : (vanishes : Vanishing) (braid : BraidValue) (m : ℕ) (w : List ℕ) → Contains (basis vanishes braid m) w → (length w ≡ m) × IsWordOver braid.letters w × (is_least vanishes braid w ≡ true)
 unfolding basis
 from_basis vanishes braid m w i =
     let (j, least) = from_filter (is_least vanishes braid) w (words braid.letters m) i in
@@ -59,11 +58,11 @@ reduced_earlier k is test l P w f h = reduced_of_each k is test l (λ v. P v × 
 
 -- a word is congruent to a combination of least words that aren't behind it
 abbrev pub IsReducedWord : Vanishing → BraidValue → ℕ → List ℕ → Type 0
-IsReducedWord vanishes braid m w = IsReduced braid.field (vanishes braid m) (λ v. IsIn v (basis vanishes braid m) × IsUpTo w v) (single w)
+IsReducedWord vanishes braid m w = IsReduced braid.field (vanishes braid m) (λ v. Contains (basis vanishes braid m) v × IsUpTo w v) (single w)
 
 -- a word that isn't least is congruent to a combination of least words before it, where all words before it are reduced
 pub reduced_before_from : (vanishes : Vanishing) (braid : BraidValue) → IsField braid.field → (m : ℕ) → IsLinearTest braid.field (vanishes braid m) → (P : List ℕ → Type 0) (w : List ℕ) → length w ≡ m → is_least vanishes braid w ≡ false →
-    ((v : List ℕ) → IsIn v (words braid.letters m) → word_cmp v w ≡ Less → IsReduced braid.field (vanishes braid m) (λ u. P u × IsUpTo v u) (single v)) →
+    ((v : List ℕ) → Contains (words braid.letters m) v → word_cmp v w ≡ Less → IsReduced braid.field (vanishes braid m) (λ u. P u × IsUpTo v u) (single v)) →
     IsReduced braid.field (vanishes braid m) (λ v. P v × (word_cmp v w ≡ Less)) (single w)
 unfolding AllAmong
 reduced_before_from vanishes braid is m l P w e least earlier =
@@ -78,20 +77,20 @@ reduced_before_from vanishes braid is m l P w e least earlier =
         let from : (length t.word ≡ length w) × IsWordOver braid.letters t.word × (word_cmp t.word w ≡ Less) = from_words_before braid.letters t.word w h.0 in
         ((earlier t.word (in_words braid.letters m t.word (from.0 ∙ e) from.1) from.2, from.2), each f h.1)
 
-pub reduced_word : (vanishes : Vanishing) (braid : BraidValue) → IsField braid.field → (m : ℕ) → IsLinearTest braid.field (vanishes braid m) → (w : List ℕ) → IsIn w (words braid.letters m) → IsReducedWord vanishes braid m w
+pub reduced_word : (vanishes : Vanishing) (braid : BraidValue) → IsField braid.field → (m : ℕ) → IsLinearTest braid.field (vanishes braid m) → (w : List ℕ) → Contains (words braid.letters m) w → IsReducedWord vanishes braid m w
 reduced_word vanishes braid is m l w i = by_earlier (words braid.letters m) (IsReducedWord vanishes braid m) (words_rise braid.letters m) step w i
   where
-    step : (w : List ℕ) → IsIn w (words braid.letters m) → ((v : List ℕ) → IsIn v (words braid.letters m) → word_cmp v w ≡ Less → IsReducedWord vanishes braid m v) → IsReducedWord vanishes braid m w
+    step : (w : List ℕ) → Contains (words braid.letters m) w → ((v : List ℕ) → Contains (words braid.letters m) v → word_cmp v w ≡ Less → IsReducedWord vanishes braid m v) → IsReducedWord vanishes braid m w
     step w i earlier = at (is_least vanishes braid w) refl
       where
         from : (length w ≡ m) × IsWordOver braid.letters w
         from = from_words braid.letters m w i
 
         at : (b : Bool) → is_least vanishes braid w ≡ b → IsReducedWord vanishes braid m w
-        at true least = reduced_itself braid.field is (vanishes braid m) l (λ v. IsIn v (basis vanishes braid m) × IsUpTo w v) w (in_basis vanishes braid m w from.0 from.1 least, inl refl)
+        at true least = reduced_itself braid.field is (vanishes braid m) l (λ v. Contains (basis vanishes braid m) v × IsUpTo w v) w (in_basis vanishes braid m w from.0 from.1 least, inl refl)
         at false least =
-            reduced_weaker braid.field (vanishes braid m) (λ v. IsIn v (basis vanishes braid m) × (word_cmp v w ≡ Less)) (λ v. IsIn v (basis vanishes braid m) × IsUpTo w v) (single w) (λ v p. (p.0, inr p.1))
-            (reduced_before_from vanishes braid is m l (λ v. IsIn v (basis vanishes braid m)) w from.0 least earlier)
+            reduced_weaker braid.field (vanishes braid m) (λ v. Contains (basis vanishes braid m) v × (word_cmp v w ≡ Less)) (λ v. Contains (basis vanishes braid m) v × IsUpTo w v) (single w) (λ v p. (p.0, inr p.1))
+            (reduced_before_from vanishes braid is m l (λ v. Contains (basis vanishes braid m) v) w from.0 least earlier)
 
 -- ---- combinations
 
@@ -99,13 +98,13 @@ pub reduced_to_basis : (vanishes : Vanishing) (braid : BraidValue) → IsField b
     (g : Combination) × AllAmong g (basis vanishes braid m) × AllElements braid.field g × AreCongruent braid.field (vanishes braid m) f g
 unfolding AllAmong
 reduced_to_basis vanishes braid is m l f among =
-    reduced_with_elements braid.field is (vanishes braid m) l (λ v. IsIn v (basis vanishes braid m)) f
-    (reduced_of_each braid.field is (vanishes braid m) l (λ v. IsIn v (basis vanishes braid m)) f (each f among))
+    reduced_with_elements braid.field is (vanishes braid m) l (λ v. Contains (basis vanishes braid m) v) f
+    (reduced_of_each braid.field is (vanishes braid m) l (λ v. Contains (basis vanishes braid m) v) f (each f among))
   where
-    each : (f : Combination) → AllAmong f (words braid.letters m) → AllByRecursion (λ t. IsReduced braid.field (vanishes braid m) (λ v. IsIn v (basis vanishes braid m)) (single t.word)) f
+    each : (f : Combination) → AllAmong f (words braid.letters m) → AllByRecursion (λ t. IsReduced braid.field (vanishes braid m) (λ v. Contains (basis vanishes braid m) v) (single t.word)) f
     each [] h = tt
     each (t ∷ f) h = (
-      reduced_weaker braid.field (vanishes braid m) (λ v. IsIn v (basis vanishes braid m) × IsUpTo t.word v) (λ v. IsIn v (basis vanishes braid m)) (single t.word) (λ v p. p.0)
+      reduced_weaker braid.field (vanishes braid m) (λ v. Contains (basis vanishes braid m) v × IsUpTo t.word v) (λ v. Contains (basis vanishes braid m) v) (single t.word) (λ v p. p.0)
           (reduced_word vanishes braid is m l t.word h.0),
       each f h.1,
     )

@@ -1,18 +1,17 @@
--- The first answer along the numbers from 1 on, as a loop finds it.
-use Rattle.std.proofs.Common.{◌≡◌, ℕ, zero, suc, ◌+◌, ◌-◌, ◌<◌, ◌≤◌, Bool, true, false, ◌&&◌, List, [], ◌∷◌, ◌++◌, refl, sym, ◌∙◌, ap, arith, Some, None, append_assoc, append-nil}
+-- Searches along the numbers from 1 on, as loops make them.
+use Rattle.std.proofs.Common.{◌≡◌, ℕ, zero, suc, ◌+◌, ◌-◌, ◌<◌, ◌≤◌, true, false, List, [], ◌∷◌, ◌++◌, refl, sym, ◌∙◌, ap, arith, Some, None, append_assoc, append-nil}
 use Rattle.std.specs.Prelude.{Option, is_some}
-use Rattle.std.specs.Option.{option_or}
-use Rattle.std.specs.List.{list_all}
-use Rattle.std.specs.Cmp.Derive.{both_true}
-use Rattle.std.proofs.lemmas.List.Folds.{list_all-append}
+use Rattle.std.specs.Option.{option_or, option_map}
 use Rattle.nichols_tensor.specs.Words.{up_to}
-use Rattle.nichols_braid.specs.Faults.{first_answer}
+use Rattle.nichols_braid.specs.FaultAnswers.{IsFault}
+use Rattle.nichols_braid.specs.Faults.{TableFault, first_answer}
+use Rattle.nichols_braid.specs.declared.faults.BraidFault.{BraidFault}
 
 or_assoc : {X : Type 0} (o p q : Option X) → option_or (option_or o p) q ≡ option_or o (option_or p q)
 or_assoc None p q = refl
 or_assoc (Some x) p q = refl
 
-first_answer-append : {X : Type 0} (f : ℕ → Option X) (xs ys : List ℕ) → first_answer f (xs ++ ys) ≡ option_or (first_answer f xs) (first_answer f ys)
+pub first_answer-append : {X : Type 0} (f : ℕ → Option X) (xs ys : List ℕ) → first_answer f (xs ++ ys) ≡ option_or (first_answer f xs) (first_answer f ys)
 first_answer-append f [] ys = refl
 first_answer-append f (x ∷ xs) ys = ap (option_or (f x)) (first_answer-append f xs ys) ∙ sym (or_assoc (f x) (first_answer f xs) (first_answer f ys))
 
@@ -33,42 +32,40 @@ up_to-prefix m n h =
 pub up_to-next : (i : ℕ) → up_to (i + 1) ≡ up_to i ++ (i + 1) ∷ []
 up_to-next i = let e : i + 1 ≡ suc i = omega arith in rw e refl
 
-some_first : {X : Type 0} (o p q : Option X) → is_some o ≡ true → o ≡ p → option_or p q ≡ o
-some_first None p q h e = cc
-some_first (Some x) None q h e = cc
-some_first (Some x) (Some y) q h e = sym e
+some_first : {X : Type 0} (p q : Option X) → is_some p ≡ true → option_or p q ≡ p
+some_first None q h = cc
+some_first (Some x) q h = refl
 
-none_is : {X : Type 0} (o : Option X) → is_some o ≡ false → o ≡ None
-none_is None h = refl
-none_is (Some x) h = cc
-
-pub first_answer-more : {X : Type 0} (f : ℕ → Option X) (i : ℕ) (o : Option X) → first_answer f (up_to i) ≡ None → o ≡ f (i + 1) → is_some o ≡ false → first_answer f (up_to (i + 1)) ≡ None
-first_answer-more f i o before here none =
+-- no answer up to i, nor at the next number
+pub first_answer-more : {X : Type 0} (f : ℕ → Option X) (i : ℕ) → first_answer f (up_to i) ≡ None → f (i + 1) ≡ None → first_answer f (up_to (i + 1)) ≡ None
+first_answer-more f i before here =
     ap (first_answer f) (up_to-next i) ∙ first_answer-append f (up_to i) ((i + 1) ∷ [])
     ∙ ap (λ p. option_or p (first_answer f ((i + 1) ∷ []))) before
-    ∙ ap (λ p. option_or p None) (sym here ∙ none_is o none)
+    ∙ ap (λ p. option_or p None) here
 
-pub first_answer-found : {X : Type 0} (f : ℕ → Option X) (i n : ℕ) (o : Option X) → i < n → first_answer f (up_to i) ≡ None → o ≡ f (i + 1) → is_some o ≡ true → o ≡ first_answer f (up_to n)
-first_answer-found f i n o less before here some =
+-- no answer up to i, but one at the next number
+pub first_answer-found : {X : Type 0} (f : ℕ → Option X) (i n : ℕ) → i < n → first_answer f (up_to i) ≡ None → is_some (f (i + 1)) ≡ true → first_answer f (up_to n) ≡ f (i + 1)
+first_answer-found f i n less before some =
     let (ys, e) = up_to-prefix (i + 1) n (omega arith) in
-    sym (ap (first_answer f) (e ∙ ap (λ xs. xs ++ ys) (up_to-next i) ∙ append_assoc (up_to i) ((i + 1) ∷ []) ys)
+    ap (first_answer f) (e ∙ ap (λ xs. xs ++ ys) (up_to-next i) ∙ append_assoc (up_to i) ((i + 1) ∷ []) ys)
     ∙ first_answer-append f (up_to i) ((i + 1) ∷ ys)
     ∙ ap (λ p. option_or p (first_answer f ((i + 1) ∷ ys))) before
-    ∙ some_first o (f (i + 1)) (first_answer f ys) some here)
+    ∙ some_first (f (i + 1)) (first_answer f ys) some
 
--- a test of all the numbers from 1 on
-pub all_up_to-more : (t : ℕ → Bool) (i : ℕ) → list_all t (up_to i) ≡ true → t (i + 1) ≡ true → list_all t (up_to (i + 1)) ≡ true
-all_up_to-more t i before here =
-    ap (list_all t) (up_to-next i) ∙ list_all-append t (up_to i) ((i + 1) ∷ []) ∙ both_true before (both_true here refl)
+-- ---- the same for answers of `BraidFault`
 
-pub all_up_to-broken : (t : ℕ → Bool) (i n : ℕ) → i < n → t (i + 1) ≡ false → list_all t (up_to n) ≡ false
-all_up_to-broken t i n less broken =
-    let (ys, e) = up_to-prefix (i + 1) n (omega arith) in
-    ap (list_all t) (e ∙ ap (λ xs. xs ++ ys) (up_to-next i) ∙ append_assoc (up_to i) ((i + 1) ∷ []) ys)
-    ∙ list_all-append t (up_to i) ((i + 1) ∷ ys)
-    ∙ at (list_all t (up_to i)) (t (i + 1)) (list_all t ys) broken
-  where
-    at : (a b c : Bool) → b ≡ false → (a && (b && c)) ≡ false
-    at true true c h = cc
-    at true false c h = refl
-    at false b c h = refl
+no_fault : (o : Option BraidFault) (p : Option TableFault) → IsFault o p → is_some o ≡ false → p ≡ None
+no_fault None None e h = refl
+no_fault None (Some x) e h = cc
+no_fault (Some x) p e h = cc
+
+some_fault : (o : Option BraidFault) (p : Option TableFault) → IsFault o p → is_some o ≡ true → is_some p ≡ true
+some_fault None p e h = cc
+some_fault (Some x) None e h = cc
+some_fault (Some x) (Some y) e h = refl
+
+pub fault-more : (f : ℕ → Option TableFault) (i : ℕ) (o : Option BraidFault) → first_answer f (up_to i) ≡ None → IsFault o (f (i + 1)) → is_some o ≡ false → first_answer f (up_to (i + 1)) ≡ None
+fault-more f i o before here none = first_answer-more f i before (no_fault o (f (i + 1)) here none)
+
+pub fault-found : (f : ℕ → Option TableFault) (i n : ℕ) (o : Option BraidFault) → i < n → first_answer f (up_to i) ≡ None → IsFault o (f (i + 1)) → is_some o ≡ true → IsFault o (first_answer f (up_to n))
+fault-found f i n o less before here some = here ∙ ap (option_map Some) (sym (first_answer-found f i n less before (some_fault o (f (i + 1)) here some)))

@@ -1,18 +1,22 @@
 -- Worked rows over the three transpositions with 101 elements and scalar -1: lifts, images and derivatives.
 use Rattle.std.proofs.Common.{◌≡◌, ℕ, List, [], ◌∷◌, refl, true}
+use Rattle.std.specs.Prelude.{pos}
+use Rattle.nichols_field.specs.Field.{prime_field}
 use Rattle.nichols_field.proofs.OnNumerals.{field_on_numerals}
 use Rattle.nichols_tensor.specs.Combination.{Term, Combination, single, is_zero}
 use Rattle.nichols_tensor.specs.Words.{words, words_before, combinations}
+use Rattle.nichols_tensor.specs.Parts.{longest, degrees_of}
 use Rattle.nichols_braid.specs.Braid.{BraidValue, entry}
 use Rattle.nichols_braid.specs.Lift.{lift}
 use Rattle.nichols_braid.specs.Symmetrizer.{permutations, lifts, symmetrized}
 use Rattle.nichols_braid.specs.Derivation.{derived_word, derived}
 use Rattle.nichols_braid.specs.Kernel.{is_in_kernel, is_killed}
 use Rattle.nichols_braid.specs.Least.{are_congruent, is_least, basis, normal_form, candidates, relations}
+use Rattle.nichols_braid.specs.WholeForm.{normal_form_by_parts}
 
 abbrev three : BraidValue
 three = record {
-  field = 101;
+  field = prime_field (pos 101);
   letters = 3;
   rack = 1 ∷ 3 ∷ 2 ∷ 3 ∷ 2 ∷ 1 ∷ 2 ∷ 1 ∷ 3 ∷ [];
   cocycle = 100 ∷ 100 ∷ 100 ∷ 100 ∷ 100 ∷ 100 ∷ 100 ∷ 100 ∷ 100 ∷ [];
@@ -63,7 +67,7 @@ cycle_is_killed = refl
 -- ---- bases and normal forms over the field of two elements, with two letters that act trivially
 
 abbrev two : BraidValue
-two = record { field = 2; letters = 2; rack = 1 ∷ 2 ∷ 1 ∷ 2 ∷ []; cocycle = 1 ∷ 1 ∷ 1 ∷ 1 ∷ [] }
+two = record { field = prime_field (pos 2); letters = 2; rack = 1 ∷ 2 ∷ 1 ∷ 2 ∷ []; cocycle = 1 ∷ 1 ∷ 1 ∷ 1 ∷ [] }
 
 basis_of_two : basis is_in_kernel two 2 ≡ (1 ∷ 2 ∷ []) ∷ []
 unfolding field_on_numerals entry lift permutations lifts is_in_kernel is_zero words words_before combinations are_congruent is_least basis
@@ -77,6 +81,11 @@ form_of_21 : normal_form is_in_kernel two 2 (single (2 ∷ 1 ∷ [])) ≡ single
 unfolding field_on_numerals entry lift permutations lifts is_in_kernel is_zero words words_before combinations are_congruent is_least basis normal_form
 form_of_21 = refl
 
+-- 2.1 + 1 + 2.2: each part has its own form
+form_by_parts : normal_form_by_parts is_in_kernel two (term (2 ∷ 1 ∷ []) 1 ∷ term (1 ∷ []) 1 ∷ term (2 ∷ 2 ∷ []) 1 ∷ []) ≡ term (1 ∷ []) 1 ∷ term (1 ∷ 2 ∷ []) 1 ∷ []
+unfolding field_on_numerals entry lift permutations lifts is_in_kernel is_zero words words_before combinations are_congruent is_least basis normal_form longest degrees_of normal_form_by_parts
+form_by_parts = refl
+
 relations_of_two : relations is_in_kernel two 2 ≡
     record { candidate = 1 ∷ 1 ∷ []; form = [] } ∷ record { candidate = 2 ∷ 1 ∷ []; form = single (1 ∷ 2 ∷ []) } ∷ record { candidate = 2 ∷ 2 ∷ []; form = [] } ∷ []
 unfolding field_on_numerals entry lift permutations lifts is_in_kernel is_zero words words_before combinations are_congruent is_least basis normal_form candidates relations
@@ -84,7 +93,7 @@ relations_of_two = refl
 
 -- one letter over five elements with scalar 1: the powers below the fifth are least, and the fifth is zero
 abbrev one : BraidValue
-one = record { field = 5; letters = 1; rack = 1 ∷ []; cocycle = 1 ∷ [] }
+one = record { field = prime_field (pos 5); letters = 1; rack = 1 ∷ []; cocycle = 1 ∷ [] }
 
 fifth_power : basis is_in_kernel one 5 ≡ []
 unfolding field_on_numerals entry lift permutations lifts is_in_kernel is_zero words words_before combinations are_congruent is_least basis

@@ -1,7 +1,8 @@
 -- Braids: a rack with a 2-cocycle (Andruskiewitsch and Graña, "From racks to pointed Hopf algebras").
 use Rattle.std.specs.Prelude.{◌≡◌, ◌≢◌, ℕ, ◌+◌, ◌-◌, ◌*◌, ◌≤◌, List, length, slice_index}
 use Rattle.nichols_field.specs.Field.{FieldValue, IsField, IsElement, times}
-use Rattle.nichols_tensor.specs.Words.{IsLetterOf, letter_limit}
+use Rattle.nichols_tensor.specs.declared.TheConstants.{LETTER_LIMIT}
+use Rattle.nichols_tensor.specs.Words.{IsLetterOf}
 
 -- a braid as contracts see it: its field, its number n of letters, and the tables of the rack and of the cocycle,
 -- each with its rows one after the other
@@ -44,7 +45,7 @@ pub record IsCocycle (braid : BraidValue) : Type 0 where
 pub record IsBraid (braid : BraidValue) : Type 0 where
   pub field : IsField braid.field
   pub least : 1 ≤ braid.letters
-  pub most : braid.letters ≤ letter_limit
+  pub most : braid.letters ≤ LETTER_LIMIT
   pub rack_size : length braid.rack ≡ braid.letters * braid.letters
   pub cocycle_size : length braid.cocycle ≡ braid.letters * braid.letters
   pub rack : IsRack braid

@@ -9,7 +9,7 @@ use Rattle.nichols_braid.specs.Kernel.{IsKilled, IsInKernel, is_killed, is_in_ke
 use Rattle.nichols_braid.specs.RightProduct.{times_letter}
 use Rattle.nichols_braid.specs.LinearMap.{IsLinearMap}
 use Rattle.nichols_braid.specs.LinearTest.{IsLinearTest}
-use Rattle.nichols_braid.specs.IdealTest.{IsIdealTest}
+use Rattle.nichols_braid.specs.RightIdealTest.{IsRightIdealTest}
 
 -- the quantum symmetrizer is linear
 abbrev pub SymmetrizerIsLinear : Type 0
@@ -53,5 +53,5 @@ abbrev pub PermutationsHoldEachOnce : Type 0
 PermutationsHoldEachOnce = (m : ℕ) → HoldsEachOnce m (permutations m)
 
 -- what is killed is, degree by degree, a linear subspace, kept by a letter from the right
-abbrev pub KilledIsIdeal : Type 0
-KilledIsIdeal = (braid : BraidValue) → IsBraid braid → IsIdealTest braid (is_killed braid)
+abbrev pub KilledIsIdealFromRight : Type 0
+KilledIsIdealFromRight = (braid : BraidValue) → IsBraid braid → IsRightIdealTest braid (is_killed braid)

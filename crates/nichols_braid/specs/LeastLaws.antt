@@ -1,9 +1,8 @@
 -- What the laws of least words, bases and normal forms say, for every linear test of which combinations are zero in the algebra.
-use Rattle.std.specs.Prelude.{◌≡◌, ℕ, true, List, [], ◌++◌, map, length, filter}
-use Rattle.std.specs.List.{AllByRecursion}
-use Rattle.std.specs.declared.cmp.Ordering.TheVariants.{Less}
+use Rattle.std.specs.Prelude.{◌≡◌, ◌≢◌, ℕ, true, false, List, [], ◌++◌, map, length, filter}
+use Rattle.std.specs.List.{AllByRecursion, Contains}
+use Rattle.std.specs.declared.cmp.Ordering.TheVariants.{Less, Greater}
 use Rattle.nichols_field.specs.Field.{IsField}
-use Rattle.nichols_tensor.specs.Members.{IsIn}
 use Rattle.nichols_tensor.specs.Combination.{Combination, HasSameValues, IsZero, AllElements, AllAmong, single, scaled, minus}
 use Rattle.nichols_tensor.specs.Words.{IsWordOver, IsOver, HasDegree}
 use Rattle.nichols_tensor.specs.WordOrder.{word_cmp, IsRising, IsOrdered}
@@ -11,7 +10,7 @@ use Rattle.nichols_braid.specs.Braid.{BraidValue}
 use Rattle.nichols_braid.specs.Kernel.{Vanishing}
 use Rattle.nichols_braid.specs.Least.{is_least, basis, normal_form, candidates, relations}
 use Rattle.nichols_braid.specs.LinearTest.{IsLinearTest}
-use Rattle.nichols_braid.specs.IdealTest.{IsIdealTest}
+use Rattle.nichols_braid.specs.RightIdealTest.{IsRightIdealTest}
 
 -- each word of f has the length of w, is a word over the letters and stands before w
 pub record IsOfEarlierWords (braid : BraidValue) (w : List ℕ) (f : Combination) : Type 0 where
@@ -34,10 +33,10 @@ LeastWordsAreTested =
 
 -- the word is an entry of the basis exactly where it is a least word of m letters
 pub record IsListedIfLeast (vanishes : Vanishing) (braid : BraidValue) (m : ℕ) (w : List ℕ) : Type 0 where
-  pub listed : length w ≡ m → IsWordOver braid.letters w → IsLeastWord vanishes braid w → IsIn w (basis vanishes braid m)
-  pub degree : IsIn w (basis vanishes braid m) → length w ≡ m
-  pub over : IsIn w (basis vanishes braid m) → IsWordOver braid.letters w
-  pub least : IsIn w (basis vanishes braid m) → IsLeastWord vanishes braid w
+  pub listed : length w ≡ m → IsWordOver braid.letters w → IsLeastWord vanishes braid w → Contains (basis vanishes braid m) w
+  pub degree : Contains (basis vanishes braid m) w → length w ≡ m
+  pub over : Contains (basis vanishes braid m) w → IsWordOver braid.letters w
+  pub least : Contains (basis vanishes braid m) w → IsLeastWord vanishes braid w
 
 -- the basis of degree m has the least words of m letters, each once, rising
 abbrev pub BasisHasLeastWords : Type 0
@@ -67,6 +66,13 @@ NormalFormsAreUnique =
     (f : Combination) → HasDegree m f → IsOver braid.letters f →
     IsNormalForm vanishes braid m f (normal_form vanishes braid m f) × ((g : Combination) → IsNormalForm vanishes braid m f g → normal_form vanishes braid m f ≡ g)
 
+-- the normal form of a word has no word behind it; that of a word that isn't least has only words before it
+abbrev pub NormalFormsLookBack : Type 0
+NormalFormsLookBack =
+    (vanishes : Vanishing) (braid : BraidValue) → IsField braid.field → (w : List ℕ) → IsWordOver braid.letters w → IsLinearTest braid.field (vanishes braid (length w)) →
+    AllByRecursion (λ t. word_cmp t.word w ≢ Greater) (normal_form vanishes braid (length w) (single w))
+    × (is_least vanishes braid w ≡ false → IsOfEarlierWords braid w (normal_form vanishes braid (length w) (single w)))
+
 -- two combinations are one in the algebra exactly where their normal forms are one
 abbrev pub NormalFormsTellClasses : Type 0
 NormalFormsTellClasses =
@@ -89,6 +95,7 @@ pub record IsLinearOnDegree (vanishes : Vanishing) (braid : BraidValue) (m : ℕ
   pub multiples : (c : ℕ) (f : Combination) → HasDegree m f → IsOver braid.letters f →
       HasSameValues braid.field (normal_form vanishes braid m (scaled braid.field c f)) (scaled braid.field c (normal_form vanishes braid m f))
 
+-- the normal form is a linear map
 abbrev pub NormalFormIsLinear : Type 0
 NormalFormIsLinear =
     (vanishes : Vanishing) (braid : BraidValue) → IsField braid.field → (m : ℕ) → IsLinearTest braid.field (vanishes braid m) → IsLinearOnDegree vanishes braid m
@@ -97,7 +104,7 @@ NormalFormIsLinear =
 abbrev pub LeastWordsAreNormal : Type 0
 LeastWordsAreNormal =
     (vanishes : Vanishing) (braid : BraidValue) → IsField braid.field → (m : ℕ) → IsLinearTest braid.field (vanishes braid m) →
-    (w : List ℕ) → IsIn w (basis vanishes braid m) → normal_form vanishes braid m (single w) ≡ single w
+    (w : List ℕ) → Contains (basis vanishes braid m) w → normal_form vanishes braid m (single w) ≡ single w
 
 -- ---- two tests
 
@@ -122,7 +129,7 @@ AgreeingTestsReadAlike = (vanishes other : Vanishing) (braid : BraidValue) → A
 -- each least word is a candidate: the basis has the least words among the candidates
 abbrev pub BasisIsAmongCandidates : Type 0
 BasisIsAmongCandidates =
-    (vanishes : Vanishing) (braid : BraidValue) → IsField braid.field → IsIdealTest braid (vanishes braid) →
+    (vanishes : Vanishing) (braid : BraidValue) → IsField braid.field → IsRightIdealTest braid (vanishes braid) →
     (m : ℕ) → basis vanishes braid m ≡ filter (is_least vanishes braid) (candidates vanishes braid m)
 
 -- the candidates of the relations of a degree rise

@@ -25,6 +25,8 @@ IsSorted (a ∷ b ∷ ends) = (a ≤ b) × IsSorted (b ∷ ends)
 
 -- the list of places is descending for these end places: each place in turn swaps an entry with a lesser one to its right,
 -- and the last list is sorted
+-- (such a list is a reduced expression of the permutation in the exchanges of neighbours; that the crossings of each lead to the
+-- same lift is Matsumoto's theorem)
 abbrev pub IsDescending : List ℕ → List ℕ → Type 0
 IsDescending ends [] = IsSorted ends
 IsDescending ends (i ∷ places) = IsDescentAt i ends × IsDescending (exchanged i ends) places

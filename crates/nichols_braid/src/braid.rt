@@ -1,14 +1,16 @@
 //! Braids.
 
-ghost use Rattle.std.specs.Prelude.{◌≡◌, ◌≢◌, ◌⊎◌, IfOk, MatchResult, Ok, Err, map};
+ghost use Rattle.std.specs.Prelude.{◌≡◌, ◌≢◌, IfOk, IfSome, MatchResult, Ok, Err, map};
 ghost use Rattle.nichols_braid.specs.Braid.{IsBraid, IsLetter, act, scalar};
-ghost use Rattle.nichols_field.specs.Field.{IsElement};
+ghost use Rattle.nichols_braid.specs.FaultAnswers.{table_fault_in};
 ghost use Rattle.nichols_braid.specs.Faults.{braid_of};
-ghost use Rattle.nichols_braid.specs.Given.{given};
+ghost use Rattle.nichols_braid.specs.GivenScalars.{given_scalars};
+ghost use Rattle.nichols_field.specs.Field.{IsElement};
 
-use crate::cocycle_law::is_cocycle;
-use crate::faults::{BraidFault, RackLaw, Scalars};
-use crate::tables::{RackTable, cocycle_table};
+use crate::cocycle_law::{cocycle_fault, zero_fault};
+use crate::faults::BraidFault;
+use crate::rack_laws::RackLaw;
+use crate::tables::{RackTable, Scalars, cocycle_table};
 use nichols_field::Field;
 use std::alloc::{AllocError, Global};
 use std::marker::Model;
@@ -36,7 +38,7 @@ impl Model for Braid {
 }
 
 impl Braid {
-    /// The braid with these rows and scalars.
+    /// The braid with these rows and scalars, or their first fault.
     ///
     /// Row i of `rack` has the letter `i ▷ j` at place j, from 1; the scalars are taken as residues, a constant at every place.
     pub fn new(
@@ -46,24 +48,23 @@ impl Braid {
         scalars: &Scalars,
     ) -> Result<Braid, BraidFault>
         ensures { MatchResult result
-            (λ b. braid_of field (map (λ row. row.items) rack.now) (given scalars.now) ≡ Ok b)
-            (λ e. (e ≡ BraidFault.Memory) ⊎ (braid_of field (map (λ row. row.items) rack.now) (given scalars.now) ≡ Err e)) }
+            (λ b. braid_of field (map (λ row. row.items) rack.now) (given_scalars scalars.now) ≡ Ok b)
+            (λ e. IfSome (table_fault_in e) (λ fault. braid_of field (map (λ row. row.items) rack.now) (given_scalars scalars.now) ≡ Err fault)) }
     {
         let _modulus = field.modulus();
-        let Some(table) = RackTable::read(alloc, rack)? else {
-            return Err(BraidFault::Unbuilt);
-        };
+        let table = RackTable::read(alloc, rack)?;
         if let Some(fault) = table.fault(RackLaw::Bijective) {
             return Err(fault);
         }
         if let Some(fault) = table.fault(RackLaw::Distributive) {
             return Err(fault);
         }
-        let Some(cocycle) = cocycle_table(alloc, field, table.letters, scalars)? else {
-            return Err(BraidFault::Unbuilt);
-        };
-        if !is_cocycle(field, &table, cocycle.as_slice()) {
-            return Err(BraidFault::Unbuilt);
+        let cocycle = cocycle_table(alloc, field, table.letters, scalars)?;
+        if let Some(fault) = zero_fault(field, &table, cocycle.as_slice()) {
+            return Err(fault);
+        }
+        if let Some(fault) = cocycle_fault(field, &table, cocycle.as_slice()) {
+            return Err(fault);
         }
         let RackTable { letters, entries } = table;
         Ok(Braid {

@@ -1,81 +1,112 @@
-//! The law of a 2-cocycle on a rack's table.
+//! The first fault of a table of scalars against the laws of a 2-cocycle.
 
-ghost use Rattle.std.specs.Prelude.{◌≡◌, not, nat_eq};
-ghost use Rattle.std.specs.List.{list_all};
+ghost use Rattle.std.specs.Prelude.{◌≡◌};
 ghost use Rattle.nichols_field.specs.Field.{IsElement};
 ghost use Rattle.nichols_tensor.specs.Words.{up_to, IsLetterOf};
 ghost use Rattle.nichols_braid.specs.Braid.{entry};
-ghost use Rattle.nichols_braid.specs.Faults.{is_cocycle, cocycle_holds_at};
+ghost use Rattle.nichols_braid.specs.FaultAnswers.{IsFault};
+ghost use Rattle.nichols_braid.specs.Faults.{first_answer, first_pair, zero_fault_at, zero_fault, cocycle_fault_at, cocycle_fault};
 ghost use Rattle.nichols_braid.specs.Tables.{IsCocycleTable, with_scalars};
 
+use crate::faults::BraidFault;
 use crate::tables::RackTable;
 use nichols_field::Field;
 
-/// Whether no scalar is 0 and the law holds at every three letters.
-#[tactic(auto, unfolding(crate::specs::Faults::is_cocycle))]
-pub(crate) fn is_cocycle(field: Field, rack: &RackTable, scalars: &[u32]) -> bool
+/// The first scalar that is 0.
+#[tactic(auto, unfolding(crate::specs::Faults::zero_fault))]
+pub(crate) fn zero_fault(field: Field, rack: &RackTable, scalars: &[u32]) -> Option<BraidFault>
     requires { IsCocycleTable field rack.now.letters scalars.now }
-    ensures { result ≡ is_cocycle (with_scalars field rack.now scalars.now) }
-{
-    none_is_zero(scalars) && holds(field, rack, scalars)
-}
-
-/// Whether no scalar is 0.
-fn none_is_zero(scalars: &[u32]) -> bool
-    ensures { result ≡ list_all (λ q. not (nat_eq q 0)) scalars.now }
-{
-    scalars.iter().all(|q| *q != 0)
-}
-
-/// Whether the law holds at every three letters.
-fn holds(field: Field, rack: &RackTable, scalars: &[u32]) -> bool
-    requires { IsCocycleTable field rack.now.letters scalars.now }
-    ensures { result ≡ list_all (λ i. list_all (λ j. list_all (cocycle_holds_at (with_scalars field rack.now scalars.now) i j) (up_to rack.now.letters)) (up_to rack.now.letters)) (up_to rack.now.letters) }
+    ensures { IsFault result (zero_fault (with_scalars field rack.now scalars.now)) }
 {
     for i in 0..rack.letters {
-        if !holds_from(field, rack, scalars, i + 1) {
-            return false;
+        let fault = zero_fault_from(field, rack, scalars, i + 1);
+        if fault.is_some() {
+            return fault;
         }
     }
-    true
+    None
 }
 
-/// Whether the law holds at letter i and every two more.
-fn holds_from(field: Field, rack: &RackTable, scalars: &[u32], i: u8) -> bool
+/// The first scalar of row i that is 0.
+fn zero_fault_from(field: Field, rack: &RackTable, scalars: &[u32], i: u8) -> Option<BraidFault>
     requires table { IsCocycleTable field rack.now.letters scalars.now }
-    requires first { IsLetterOf rack.now.letters i }
-    ensures { result ≡ list_all (λ j. list_all (cocycle_holds_at (with_scalars field rack.now scalars.now) i j) (up_to rack.now.letters)) (up_to rack.now.letters) }
+    requires row { IsLetterOf rack.now.letters i }
+    ensures { IsFault result (first_answer (zero_fault_at (with_scalars field rack.now scalars.now) i) (up_to rack.now.letters)) }
 {
     for j in 0..rack.letters {
-        if !holds_from_pair(field, rack, scalars, i, j + 1) {
-            return false;
+        if scalar(field, rack.letters, scalars, i, j + 1) == 0 {
+            return Some(BraidFault::CocycleZero(i, j + 1));
         }
     }
-    true
+    None
 }
 
-/// Whether the law holds at letters i, j and every one more.
-fn holds_from_pair(field: Field, rack: &RackTable, scalars: &[u32], i: u8, j: u8) -> bool
+/// The first fault against the law of three letters.
+#[tactic(auto, unfolding(crate::specs::Faults::cocycle_fault))]
+pub(crate) fn cocycle_fault(field: Field, rack: &RackTable, scalars: &[u32]) -> Option<BraidFault>
+    requires { IsCocycleTable field rack.now.letters scalars.now }
+    ensures { IsFault result (cocycle_fault (with_scalars field rack.now scalars.now)) }
+{
+    for i in 0..rack.letters {
+        let fault = cocycle_fault_from(field, rack, scalars, i + 1);
+        if fault.is_some() {
+            return fault;
+        }
+    }
+    None
+}
+
+/// The first fault at letter i and two more.
+fn cocycle_fault_from(field: Field, rack: &RackTable, scalars: &[u32], i: u8) -> Option<BraidFault>
+    requires table { IsCocycleTable field rack.now.letters scalars.now }
+    requires first { IsLetterOf rack.now.letters i }
+    ensures { IsFault result (first_pair rack.now.letters (cocycle_fault_at (with_scalars field rack.now scalars.now) i)) }
+{
+    for j in 0..rack.letters {
+        let fault = cocycle_fault_from_pair(field, rack, scalars, i, j + 1);
+        if fault.is_some() {
+            return fault;
+        }
+    }
+    None
+}
+
+/// The first fault at letters i, j and one more.
+fn cocycle_fault_from_pair(
+    field: Field,
+    rack: &RackTable,
+    scalars: &[u32],
+    i: u8,
+    j: u8,
+) -> Option<BraidFault>
     requires table { IsCocycleTable field rack.now.letters scalars.now }
     requires first { IsLetterOf rack.now.letters i }
     requires second { IsLetterOf rack.now.letters j }
-    ensures { result ≡ list_all (cocycle_holds_at (with_scalars field rack.now scalars.now) i j) (up_to rack.now.letters) }
+    ensures { IsFault result (first_answer (cocycle_fault_at (with_scalars field rack.now scalars.now) i j) (up_to rack.now.letters)) }
 {
     for k in 0..rack.letters {
-        if !holds_at(field, rack, scalars, i, j, k + 1) {
-            return false;
+        let fault = cocycle_fault_at(field, rack, scalars, i, j, k + 1);
+        if fault.is_some() {
+            return fault;
         }
     }
-    true
+    None
 }
 
-/// Whether the law holds at three letters.
-fn holds_at(field: Field, rack: &RackTable, scalars: &[u32], i: u8, j: u8, k: u8) -> bool
+/// The fault at three letters, where the law is broken there.
+fn cocycle_fault_at(
+    field: Field,
+    rack: &RackTable,
+    scalars: &[u32],
+    i: u8,
+    j: u8,
+    k: u8,
+) -> Option<BraidFault>
     requires table { IsCocycleTable field rack.now.letters scalars.now }
     requires first { IsLetterOf rack.now.letters i }
     requires second { IsLetterOf rack.now.letters j }
     requires third { IsLetterOf rack.now.letters k }
-    ensures { result ≡ cocycle_holds_at (with_scalars field rack.now scalars.now) i j k }
+    ensures { IsFault result (cocycle_fault_at (with_scalars field rack.now scalars.now) i j k) }
 {
     let n = rack.letters;
     let left = field.mul(
@@ -86,7 +117,11 @@ fn holds_at(field: Field, rack: &RackTable, scalars: &[u32], i: u8, j: u8, k: u8
         scalar(field, n, scalars, rack.entry(i, j), rack.entry(i, k)),
         scalar(field, n, scalars, i, k),
     );
-    left == right
+    if left == right {
+        None
+    } else {
+        Some(BraidFault::NotCocycle(i, j, k, left, right))
+    }
 }
 
 /// The scalar of row i and column j.

@@ -1,9 +1,16 @@
 //! Laws of braids and their tables, and of the symmetrizer and the skew derivations for every braid and every length.
 
-ghost use Rattle.nichols_braid.specs.TableLaws.{BraidsAreAccepted, AcceptedTablesAreBraids};
-ghost use Rattle.nichols_braid.specs.Laws.{PermutationsHoldEachOnce, SymmetrizerIsLinear, DerivationsAreLinear, DerivationRule, KilledIsRightIdeal, KilledIsDecided, KernelIsDecided, KilledIsLinear, KernelIsLinear, KilledIsIdeal};
-ghost use Rattle.nichols_braid.specs.LeastLaws.{LeastWordsAreTested, BasisHasLeastWords, BasisIsIndependent, NormalFormsAreUnique, NormalFormsTellClasses, ZeroHasNoTerms, NormalFormIsLinear, LeastWordsAreNormal, AgreeingTestsReadAlike, BasisIsAmongCandidates, RelationsRise};
-ghost use Rattle.nichols_braid.specs.EndLaws.{FinishedDegrees, ClosedWhereADegreeIsEmpty};
+pub mod left;
+pub mod new_words;
+pub mod products;
+
+ghost use Rattle.nichols_braid.specs.TableLaws.{BraidsAreAccepted, AcceptedTablesAreBraids, FirstFaultsAreNamed};
+ghost use Rattle.nichols_braid.specs.FaultLaws.{FirstAnswersAreLeast, FirstTriplesAreLeast};
+ghost use Rattle.nichols_braid.specs.Laws.{PermutationsHoldEachOnce, SymmetrizerIsLinear, DerivationsAreLinear, DerivationRule, KilledIsRightIdeal, KilledIsDecided, KernelIsDecided, KilledIsLinear, KernelIsLinear, KilledIsIdealFromRight};
+ghost use Rattle.nichols_braid.specs.LeastLaws.{LeastWordsAreTested, BasisHasLeastWords, BasisIsIndependent, NormalFormsAreUnique, NormalFormsLookBack, NormalFormsTellClasses, ZeroHasNoTerms, NormalFormIsLinear, LeastWordsAreNormal, AgreeingTestsReadAlike, BasisIsAmongCandidates, RelationsRise};
+ghost use Rattle.nichols_braid.specs.WholeLaws.{KernelByParts, NormalFormsByParts, FormsByPartsTellClasses};
+ghost use Rattle.nichols_braid.specs.FormLaws.{CandidateFormsAreListed, DerivativesOfCandidates};
+ghost use Rattle.nichols_braid.specs.EndLaws.{FinishedDegrees, ClosedWhereADegreeIsEmpty, AnEndIsReached};
 
 /// A braid over the given field, with the given letters and scalars at their places, is what is accepted.
 #[tactic(auto, using(crate::proofs::Complete::braids_are_accepted))]
@@ -14,6 +21,18 @@ pub fn braids_are_accepted()
 /// What is accepted is a braid over the given field, with the given letters and scalars at their places.
 pub fn accepted_tables_are_braids()
     ensures { AcceptedTablesAreBraids }
+{}
+
+/// Where rows and scalars are refused, what the named fault says is so, and no fault of an earlier kind or place is.
+pub fn first_faults_are_named()
+    ensures { FirstFaultsAreNamed }
+{}
+
+/// A search along a list finds the answer of its first entry that has one, a search along three letters that of the first
+/// three in lexicographic order, and each finds nothing exactly where there is no answer.
+pub fn first_answers_are_least<X>()
+    ensures answers { FirstAnswersAreLeast X }
+    ensures triples { FirstTriplesAreLeast X }
 {}
 
 /// The quantum symmetrizer is linear.
@@ -68,8 +87,8 @@ pub fn permutations_hold_each_once()
 {}
 
 /// What is killed is, degree by degree, a linear subspace, kept by a letter from the right.
-pub fn killed_is_ideal()
-    ensures { KilledIsIdeal }
+pub fn killed_is_ideal_from_right()
+    ensures { KilledIsIdealFromRight }
 {}
 
 /// The test of least words says yes exactly of the words that are congruent to no combination of earlier words of their length.
@@ -92,6 +111,12 @@ pub fn least_words_are_independent()
 /// Each combination of words of m letters is congruent to exactly one combination of least words in order.
 pub fn normal_forms_are_unique()
     ensures { NormalFormsAreUnique }
+{}
+
+/// The normal form of a word has no word behind it, and that of a word that isn't least only words before it.
+#[tactic(auto, using(crate::proofs::LookingBack::normal_forms_look_back))]
+pub fn normal_forms_look_back()
+    ensures { NormalFormsLookBack }
 {}
 
 /// Two combinations are one in the algebra exactly where their normal forms are one.
@@ -136,14 +161,50 @@ pub fn relations_rise()
     ensures { RelationsRise }
 {}
 
-/// A degree is finished exactly where it is within the limit and no degree below it is empty; the finished degrees stand in order, from 0 on.
-#[tactic(auto, using(crate::proofs::EndLaws::finished_degrees))]
-pub fn finished_degrees()
-    ensures { FinishedDegrees }
+/// A combination of words of several lengths is in the kernel exactly where each part of one length is; the test of the parts decides it.
+pub fn kernel_by_parts()
+    ensures { KernelByParts }
 {}
 
-/// The algebra is closed exactly where some degree within the limit is empty.
+/// The normal forms of the parts of one length, one after the other, are the one combination of least words in order that is one
+/// with the whole in the algebra.
+#[tactic(auto, using(crate::proofs::WholeForms::normal_forms_by_parts))]
+pub fn normal_forms_by_parts()
+    ensures { NormalFormsByParts }
+{}
+
+/// Two combinations of words of several lengths have one normal form exactly where their difference is zero in the algebra.
+#[tactic(auto, using(crate::proofs::WholeForms::forms_by_parts_tell_classes))]
+pub fn forms_by_parts_tell_classes()
+    ensures { FormsByPartsTellClasses }
+{}
+
+/// The form of a candidate, read from the relations of its degree, is its normal form.
+#[tactic(auto, using(crate::proofs::FormsOfCandidates::candidate_forms_are_listed))]
+pub fn candidate_forms_are_listed()
+    ensures { CandidateFormsAreListed }
+{}
+
+/// The normal form of the derivative of a candidate `u x_b` follows from the relations of u's degree and the normal form of
+/// u's own derivative, where what is zero in the algebra is a right ideal.
+#[tactic(auto, using(crate::proofs::FormsOfDerivatives::derivatives_of_candidates))]
+pub fn derivatives_of_candidates()
+    ensures { DerivativesOfCandidates }
+{}
+
+/// A degree is finished exactly where it is within the greatest, nothing stops it or a degree below it, and no degree below it is
+/// empty; the finished degrees stand in order, from 0 on.
+pub fn finished_degrees<X>()
+    ensures { FinishedDegrees X }
+{}
+
+/// The algebra is closed exactly where some degree is empty that nothing stops, nor any degree below it.
 #[tactic(auto, using(crate::proofs::EndLaws::closed_where_a_degree_is_empty))]
-pub fn closed_where_a_degree_is_empty()
-    ensures { ClosedWhereADegreeIsEmpty }
+pub fn closed_where_a_degree_is_empty<X>()
+    ensures { ClosedWhereADegreeIsEmpty X }
+{}
+
+/// Where each degree above the greatest is stopped, the algebra is closed, or what stops its first unfinished degree is its stop.
+pub fn an_end_is_reached<X>()
+    ensures { AnEndIsReached X }
 {}

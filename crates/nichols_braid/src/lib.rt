@@ -9,7 +9,11 @@ mod rack_laws;
 mod tables;
 
 pub use braid::Braid;
-pub use faults::{BraidFault, Scalars};
+pub use faults::BraidFault;
+pub use tables::Scalars;
+
+/// The greatest degree of an algebra that is made.
+pub const MOST_DEGREES: u32 = 60;
 
 #[cfg(test)]
 mod tests;

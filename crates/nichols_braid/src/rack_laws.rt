@@ -1,17 +1,27 @@
 //! The first fault of a table against the laws of a rack.
 
-ghost use Rattle.std.specs.Prelude.{◌≡◌};
-ghost use Rattle.nichols_braid.specs.Faults.{rack_fault_at, rack_fault, first_answer};
+ghost use Rattle.nichols_braid.specs.FaultAnswers.{IsFault};
+ghost use Rattle.nichols_braid.specs.Faults.{first_answer, first_pair};
+ghost use Rattle.nichols_braid.specs.RackLaws.{law_fault_at, law_fault};
 ghost use Rattle.nichols_tensor.specs.Words.{up_to, IsLetterOf};
 
-use crate::faults::{BraidFault, RackLaw};
+use crate::faults::BraidFault;
 use crate::tables::RackTable;
+
+/// The laws of a rack that speak of three letters.
+#[derive(Clone, Copy)]
+pub(crate) enum RackLaw {
+    /// `i ▷ j` isn't `i ▷ k` where j is less than k.
+    Bijective,
+    /// `i ▷ (j ▷ k)` is `(i ▷ j) ▷ (i ▷ k)`.
+    Distributive,
+}
 
 impl RackTable {
     /// The first fault against a law.
-    #[tactic(auto, unfolding(crate::specs::Faults::rack_fault))]
+    #[tactic(auto, unfolding(crate::specs::RackLaws::law_fault))]
     pub(crate) fn fault(&self, law: RackLaw) -> Option<BraidFault>
-        ensures { result ≡ rack_fault self.now.letters self.now.entries law }
+        ensures { IsFault result (law_fault self.now law) }
     {
         for i in 0..self.letters {
             let fault = self.fault_from(law, i + 1);
@@ -25,7 +35,7 @@ impl RackTable {
     /// The first fault at letter i and two more.
     fn fault_from(&self, law: RackLaw, i: u8) -> Option<BraidFault>
         requires { IsLetterOf self.now.letters i }
-        ensures { result ≡ first_answer (λ j. first_answer (rack_fault_at self.now.letters self.now.entries law i j) (up_to self.now.letters)) (up_to self.now.letters) }
+        ensures { IsFault result (first_pair self.now.letters (law_fault_at self.now law i)) }
     {
         for j in 0..self.letters {
             let fault = self.fault_from_pair(law, i, j + 1);
@@ -40,7 +50,7 @@ impl RackTable {
     fn fault_from_pair(&self, law: RackLaw, i: u8, j: u8) -> Option<BraidFault>
         requires first { IsLetterOf self.now.letters i }
         requires second { IsLetterOf self.now.letters j }
-        ensures { result ≡ first_answer (rack_fault_at self.now.letters self.now.entries law i j) (up_to self.now.letters) }
+        ensures { IsFault result (first_answer (law_fault_at self.now law i j) (up_to self.now.letters)) }
     {
         for k in 0..self.letters {
             let fault = self.fault_at(law, i, j, k + 1);
@@ -56,12 +66,13 @@ impl RackTable {
         requires first { IsLetterOf self.now.letters i }
         requires second { IsLetterOf self.now.letters j }
         requires third { IsLetterOf self.now.letters k }
-        ensures { result ≡ rack_fault_at self.now.letters self.now.entries law i j k }
+        ensures { IsFault result (law_fault_at self.now law i j k) }
     {
         match law {
             RackLaw::Bijective => {
-                if j < k && self.entry(i, j) == self.entry(i, k) {
-                    Some(BraidFault::Unbuilt)
+                let letter = self.entry(i, j);
+                if j < k && letter == self.entry(i, k) {
+                    Some(BraidFault::NotBijective(i, j, k, letter))
                 } else {
                     None
                 }

@@ -1,17 +1,29 @@
 //! The tables of a braid, read from rows of integers.
 
-ghost use Rattle.std.specs.Prelude.{◌≡◌, ◌≤◌, ◌<◌, IfOk, IfSome, IsTrue, map, option_map, length, Option, Some, None};
-ghost use Rattle.nichols_braid.specs.Braid.{entry};
-ghost use Rattle.nichols_braid.specs.Faults.{letter_of, row_letters, rows_letters, rack_table, cocycle_table, rows_residues};
-ghost use Rattle.nichols_braid.specs.Given.{given};
-ghost use Rattle.nichols_braid.specs.Tables.{IsRackTable, IsCocycleTable};
+ghost use Rattle.std.specs.Prelude.{◌≡◌, ◌≤◌, ◌++◌, true, false, IfOk, OnOk, MatchOption, MatchResult, map, length};
+ghost use Rattle.std.specs.List.{flat_map};
+ghost use Rattle.nichols_braid.specs.FaultAnswers.{IsFaultOrMemory};
+ghost use Rattle.nichols_braid.specs.Faults.{first_answer, rows_fault, rack_entry_fault, entry_fault_at, is_letter, row_fits, wrong_row, cocycle_shape_fault};
+ghost use Rattle.nichols_braid.specs.GivenScalars.{given_scalars};
+ghost use Rattle.nichols_braid.specs.Tables.{image};
+ghost use Rattle.nichols_braid.specs.GivenTables.{letter_of, given_rack, given_cocycle};
 ghost use Rattle.nichols_field.specs.Field.{residue};
-ghost use Rattle.nichols_tensor.specs.Words.{IsLetterOf};
+ghost use Rattle.nichols_tensor.specs.Words.{IsLetterOf, up_to};
 
-use crate::faults::Scalars;
+use crate::faults::BraidFault;
 use nichols_field::Field;
+use nichols_tensor::LETTER_LIMIT;
 use std::alloc::{AllocError, Global};
 use std::marker::Model;
+
+/// The scalars of a braid, as they are given.
+#[derive(Debug, Drop)]
+pub enum Scalars {
+    /// One integer for every place.
+    Constant(i64),
+    /// Row i has `q(i, j)` at place j.
+    Table(Vec<Vec<i64>>),
+}
 
 /// A table of letters by letters, before the laws of a rack are known.
 #[derive(Drop)]
@@ -27,26 +39,29 @@ impl Model for RackTable {
 
     ghost view = { λ t. record { letters = t.letters; entries = t.entries.items } };
 
-    ghost invariant = { λ t. IsRackTable t.letters t.entries.items };
+    ghost invariant = { λ t. IsRackTable (record { letters = t.letters; entries = t.entries.items }) };
 }
 
 impl RackTable {
-    /// The table of these rows: 1 to 24 of them, with as many letters in each, or none.
-    pub(crate) fn read(alloc: Global, rows: &[Vec<i64>]) -> Result<Option<RackTable>, AllocError>
-        ensures entries { IfOk result (λ r. option_map (λ t. t.entries) r ≡ rack_table (map (λ row. row.items) rows.now)) }
-        ensures letters { IfOk result (λ r. IfSome r (λ t. t.letters ≡ length rows.now)) }
+    /// The table of these rows: 1 to `LETTER_LIMIT` of them, with as many letters in each.
+    pub(crate) fn read(alloc: Global, rows: &[Vec<i64>]) -> Result<RackTable, BraidFault>
+        ensures value { IfOk result (λ t. t ≡ given_rack (map (λ row. row.items) rows.now)) }
+        ensures fault { MatchResult result
+            (λ _. rows_fault (map (λ row. row.items) rows.now) ≡ None)
+            (λ e. IsFaultOrMemory e (rows_fault (map (λ row. row.items) rows.now))) }
     {
         if rows.is_empty() {
-            return Ok(None);
+            return Err(BraidFault::Letters(0));
         }
-        if rows.len() > 24 {
-            return Ok(None);
+        if rows.len() > usize::from(LETTER_LIMIT) {
+            return Err(BraidFault::Letters(rows.len()));
         }
         let letters = rows.len() as u8;
-        match rows_letters(alloc, letters, rows)? {
-            Some(entries) => Ok(Some(RackTable { letters, entries })),
-            None => Ok(None),
+        if let Some(row) = wrong_row(letters, rows) {
+            return Err(BraidFault::RackShape(row));
         }
+        let entries = rows_letters(alloc, letters, rows)?;
+        Ok(RackTable { letters, entries })
     }
 
     /// The entry of row i and column j.
@@ -54,7 +69,7 @@ impl RackTable {
     pub(crate) fn entry(&self, i: u8, j: u8) -> u8
         requires row { IsLetterOf self.now.letters i }
         requires column { IsLetterOf self.now.letters j }
-        ensures value { result ≡ entry self.now.letters self.now.entries i j }
+        ensures value { result ≡ image self.now i j }
         ensures letter { IsLetterOf self.now.letters result }
     {
         let n = usize::from(self.letters);
@@ -62,9 +77,67 @@ impl RackTable {
     }
 }
 
+/// The least number of a row that is missing or has not as many entries as there are letters, or that of a surplus row.
+#[tactic(auto, unfolding(crate::specs::Faults::wrong_row))]
+fn wrong_row(letters: u8, rows: &[Vec<i64>]) -> Option<usize>
+    ensures { result ≡ wrong_row letters (map (λ row. row.items) rows.now) }
+{
+    let n = usize::from(letters);
+    for r in 0..n + 1 {
+        if !row_fits(n, rows, r + 1) {
+            return Some(r + 1);
+        }
+    }
+    None
+}
+
+/// Whether row r is as in n rows of n entries.
+fn row_fits(n: usize, rows: &[Vec<i64>], r: usize) -> bool
+    requires { 1 ≤ r }
+    ensures { result ≡ row_fits n (map (λ row. row.items) rows.now) r }
+{
+    match rows.get(r - 1) {
+        Some(row) => r <= n && row.len() == n,
+        None => n < r,
+    }
+}
+
+/// The letters of the rows, one row after the other.
+fn rows_letters(alloc: Global, letters: u8, rows: &[Vec<i64>]) -> Result<Vec<u8>, BraidFault>
+    requires count { length rows.now ≡ letters }
+    requires lengths { wrong_row letters (map (λ row. row.items) rows.now) ≡ None }
+    ensures value { IfOk result (λ v. v.items ≡ flat_map (map letter_of) (map (λ row. row.items) rows.now)) }
+    ensures fault { MatchResult result
+        (λ _. rack_entry_fault (map (λ row. row.items) rows.now) ≡ None)
+        (λ e. IsFaultOrMemory e (rack_entry_fault (map (λ row. row.items) rows.now))) }
+{
+    let mut out = Vec::with_capacity(alloc, rows.len() * rows.len())?;
+    for i in 0..letters {
+        push_letters(letters, i + 1, rows[usize::from(i)].as_slice(), &mut out)?;
+    }
+    Ok(out)
+}
+
+/// Puts the letters of row i behind those of the rows before it.
+fn push_letters(letters: u8, i: u8, row: &[i64], out: &mut Vec<u8>) -> Result<(), BraidFault>
+    requires { length row.now ≡ letters }
+    ensures value { OnOk result (out.new.items ≡ out.old.items ++ map letter_of row.now) }
+    ensures fault { MatchResult result
+        (λ _. first_answer (entry_fault_at letters row.now i) (up_to letters) ≡ None)
+        (λ e. IsFaultOrMemory e (first_answer (entry_fault_at letters row.now i) (up_to letters))) }
+{
+    for (j, v) in row.iter().enumerate() {
+        match letter_of(letters, *v) {
+            Some(letter) => out.push(letter)?,
+            None => return Err(BraidFault::RackEntry(u32::from(i), j as u32 + 1, *v)),
+        }
+    }
+    Ok(())
+}
+
 /// An integer as one of n letters.
 fn letter_of(letters: u8, v: i64) -> Option<u8>
-    ensures { result ≡ letter_of letters v }
+    ensures { MatchOption result (is_letter letters v ≡ false) (λ a. (is_letter letters v ≡ true) × (a ≡ letter_of v)) }
 {
     if 1 <= v && v <= i64::from(letters) {
         Some(v as u8)
@@ -73,92 +146,50 @@ fn letter_of(letters: u8, v: i64) -> Option<u8>
     }
 }
 
-/// The letters of a row, where each entry is one.
-fn row_letters(alloc: Global, letters: u8, row: &[i64]) -> Result<Option<Vec<u8>>, AllocError>
-    ensures { IfOk result (λ r. option_map (λ v. v.items) r ≡ row_letters letters row.now) }
-{
-    let mut out = Vec::new(alloc);
-    for v in row {
-        match letter_of(letters, *v) {
-            Some(letter) => out.push(letter)?,
-            None => return Ok(None),
-        }
-    }
-    Ok(Some(out))
-}
-
-/// The rows one after the other, where each has as many letters as there are.
-fn rows_letters(
-    alloc: Global,
-    letters: u8,
-    rows: &[Vec<i64>],
-) -> Result<Option<Vec<u8>>, AllocError>
-    ensures { IfOk result (λ r. option_map (λ v. v.items) r ≡ rows_letters letters (map (λ row. row.items) rows.now)) }
-{
-    let mut out = Vec::new(alloc);
-    for row in rows {
-        if row.len() != usize::from(letters) {
-            return Ok(None);
-        }
-        match row_letters(alloc, letters, row.as_slice())? {
-            Some(part) => out.extend_from_slice(part.as_slice())?,
-            None => return Ok(None),
-        }
-    }
-    Ok(Some(out))
-}
-
-/// A row as elements of the field.
-fn row_residues(alloc: Global, field: Field, row: &[i64]) -> Result<Vec<u32>, AllocError>
-    ensures { IfOk result (λ r. r.items ≡ map (residue field) row.now) }
-{
-    let mut out = Vec::with_capacity(alloc, row.len())?;
-    for v in row {
-        out.push(field.from_i64(*v))?;
-    }
-    Ok(out)
-}
-
-/// The rows one after the other as elements of the field, where each has as many entries as there are letters.
-fn rows_residues(
-    alloc: Global,
-    field: Field,
-    letters: u8,
-    rows: &[Vec<i64>],
-) -> Result<Option<Vec<u32>>, AllocError>
-    ensures { IfOk result (λ r. option_map (λ v. v.items) r ≡ rows_residues field letters (map (λ row. row.items) rows.now)) }
-{
-    let mut out = Vec::new(alloc);
-    for row in rows {
-        if row.len() != usize::from(letters) {
-            return Ok(None);
-        }
-        let part = row_residues(alloc, field, row.as_slice())?;
-        out.extend_from_slice(part.as_slice())?;
-    }
-    Ok(Some(out))
-}
-
-/// The table of the cocycle: as many rows as letters, with as many entries each, or none.
-#[tactic(auto, unfolding(crate::specs::Faults::cocycle_table))]
+/// The table of the cocycle: one residue at every place, or those of as many rows as letters, with as many entries each.
+#[tactic(auto, unfolding(crate::specs::Faults::cocycle_shape_fault))]
 pub(crate) fn cocycle_table(
     alloc: Global,
     field: Field,
     letters: u8,
     scalars: &Scalars,
-) -> Result<Option<Vec<u32>>, AllocError>
-    ensures { IfOk result (λ r. option_map (λ v. v.items) r ≡ cocycle_table field letters (given scalars.now)) }
+) -> Result<Vec<u32>, BraidFault>
+    ensures value { IfOk result (λ v. v.items ≡ given_cocycle field letters (given_scalars scalars.now)) }
+    ensures fault { MatchResult result
+        (λ _. cocycle_shape_fault letters (given_scalars scalars.now) ≡ None)
+        (λ e. IsFaultOrMemory e (cocycle_shape_fault letters (given_scalars scalars.now))) }
 {
     match scalars {
         Scalars::Constant(v) => {
             let n = usize::from(letters);
-            Ok(Some(vec![in alloc; field.from_i64(*v); n * n]?))
+            Ok(vec![in alloc; field.from_i64(*v); n * n]?)
         }
         Scalars::Table(rows) => {
-            if rows.len() != usize::from(letters) {
-                return Ok(None);
+            if let Some(row) = wrong_row(letters, rows.as_slice()) {
+                return Err(BraidFault::CocycleShape(row));
             }
-            rows_residues(alloc, field, letters, rows.as_slice())
+            Ok(rows_residues(alloc, field, rows.as_slice())?)
         }
     }
+}
+
+/// The residues of the rows, one row after the other.
+fn rows_residues(alloc: Global, field: Field, rows: &[Vec<i64>]) -> Result<Vec<u32>, AllocError>
+    ensures { IfOk result (λ v. v.items ≡ flat_map (map (residue field)) (map (λ row. row.items) rows.now)) }
+{
+    let mut out = Vec::new(alloc);
+    for row in rows {
+        push_residues(field, row.as_slice(), &mut out)?;
+    }
+    Ok(out)
+}
+
+/// Puts the residues of a row behind those of the rows before it.
+fn push_residues(field: Field, row: &[i64], out: &mut Vec<u32>) -> Result<(), AllocError>
+    ensures { OnOk result (out.new.items ≡ out.old.items ++ map (residue field) row.now) }
+{
+    for v in row {
+        out.push(field.from_i64(*v))?;
+    }
+    Ok(())
 }

@@ -2,6 +2,7 @@ use super::*;
 use nichols_field::Field;
 use std::alloc::{AllocError, Global};
 use std::test::Fail;
+use std::thread::join;
 
 fn rows(alloc: Global, entries: &[&[i64]]) -> Result<Vec<Vec<i64>>, AllocError> {
     let mut out = Vec::new(alloc);
@@ -13,47 +14,114 @@ fn rows(alloc: Global, entries: &[&[i64]]) -> Result<Vec<Vec<i64>>, AllocError> 
 
 const THREE: [&[i64]; 3] = [&[1, 3, 2], &[3, 2, 1], &[2, 1, 3]];
 
-#[test]
-fn three_transpositions(rt: HostRuntime) -> Result<(), Fail> {
-    let alloc = rt.alloc();
-    let field = Field::new(101).map_err(|_| "no field")?;
+/// The three transpositions over five elements, with scalars that differ.
+fn twisted(alloc: Global) -> Result<Braid, Fail> {
+    let field = Field::new(5).map_err(|_| "no field")?;
     let rack = rows(alloc, &THREE)?;
-    let scalars = Scalars::Table(rows(alloc, &[&[-1, -1, -1], &[-1, -1, -1], &[-1, -1, -1]])?);
-    let braid = Braid::new(alloc, field, rack.as_slice(), &scalars).map_err(|_| "refused")?;
+    let scalars = Scalars::Table(rows(alloc, &[&[3, 3, 3], &[1, 3, -1], &[1, -1, -2]])?);
+    Ok(Braid::new(alloc, field, rack.as_slice(), &scalars).map_err(|_| "refused")?)
+}
+
+/// `i ▷ j`, i and `q(i, j)` for all letters i and j, in lexicographic order.
+fn entries(alloc: Global, braid: &Braid) -> Result<Vec<(u8, u8, u32)>, AllocError> {
+    let letters = braid.letters();
+    let mut out = Vec::new(alloc);
+    for i in 0..letters {
+        for j in 0..letters {
+            out.push(braid.braid_at(i + 1, j + 1))?;
+        }
+    }
+    Ok(out)
+}
+
+const TWISTED: [(u8, u8, u32); 9] = [
+    (1, 1, 3),
+    (3, 1, 3),
+    (2, 1, 3),
+    (3, 2, 1),
+    (2, 2, 3),
+    (1, 2, 4),
+    (2, 3, 1),
+    (1, 3, 4),
+    (3, 3, 3),
+];
+
+#[test]
+fn a_copy_is_the_whole_braid(rt: HostRuntime) -> Result<(), Fail> {
+    let alloc = rt.alloc();
+    let braid = twisted(alloc)?;
     let copy = braid.copy(alloc)?;
-    assert_eq!(rt; copy.letters(), 3);
-    assert_eq!(rt; copy.field().modulus(), 101);
-    if copy.letters() == 3 {
-        assert_eq!(rt; copy.act(1, 2), 3);
-        assert_eq!(rt; copy.act(3, 1), 2);
-        assert_eq!(rt; copy.scalar(2, 3), 100);
-        assert_eq!(rt; copy.braid_at(1, 2), (3, 1, 100));
+    for each in [&braid, &copy] {
+        assert_eq!(rt; each.field().modulus(), 5);
+        assert_eq!(rt; each.letters(), 3);
+        assert_eq!(rt; entries(alloc, each)?.as_slice(), TWISTED.as_slice());
     }
     Ok(())
 }
 
-/// The fault of a table with one scalar at every place, over 101 elements.
+#[test]
+fn threads_share_a_braid_and_take_it(rt: HostRuntime) -> Result<(), Fail> {
+    let alloc = rt.alloc();
+    let braid = twisted(alloc)?;
+    let (there, here) = join(&rt, || entries(alloc, &braid), || entries(alloc, &braid));
+    assert_eq!(rt; there?.as_slice(), TWISTED.as_slice());
+    assert_eq!(rt; here?.as_slice(), TWISTED.as_slice());
+    let (moved, ()) = join(&rt, move || entries(alloc, &braid), || ());
+    assert_eq!(rt; moved?.as_slice(), TWISTED.as_slice());
+    Ok(())
+}
+
+#[test]
+fn one_letter_acts_on_another(rt: HostRuntime) -> Result<(), Fail> {
+    let alloc = rt.alloc();
+    let braid = twisted(alloc)?;
+    assert_eq!(rt; braid.letters(), 3);
+    if braid.letters() == 3 {
+        assert_eq!(rt; braid.act(1, 2), 3);
+        assert_eq!(rt; braid.scalar(3, 2), 4);
+    }
+    Ok(())
+}
+
+/// The fault of rows with these scalars, over 101 elements.
 fn fault(alloc: Global, rack: &[&[i64]], scalars: &Scalars) -> Result<Option<BraidFault>, Fail> {
     let field = Field::new(101).map_err(|_| "no field")?;
     let rack = rows(alloc, rack)?;
     Ok(Braid::new(alloc, field, rack.as_slice(), scalars).err())
 }
 
+/// Two letters that act alike.
+const TWO: [&[i64]; 2] = [&[1, 2], &[1, 2]];
+
 #[test]
 fn racks_with_faults(rt: HostRuntime) -> Result<(), Fail> {
     let alloc = rt.alloc();
-    let tables: [(&[&[i64]], Option<BraidFault>); 8] = [
+    let tables: [(&[&[i64]], Option<BraidFault>); 13] = [
         (&[&[1]], None),
-        (&[&[1, 2], &[1, 2]], None),
+        (&TWO, None),
+        (&THREE, None),
+        (&[], Some(BraidFault::Letters(0))),
+        (&[&[]], Some(BraidFault::RackShape(1))),
+        (&[&[1, 9], &[1], &[1, 2, 3]], Some(BraidFault::RackShape(1))),
+        (&[&[1, 9], &[1]], Some(BraidFault::RackShape(2))),
+        (&[&[1, 2], &[1, 0]], Some(BraidFault::RackEntry(2, 2, 0))),
+        (&[&[1, 1], &[3, -1]], Some(BraidFault::RackEntry(2, 1, 3))),
+        (
+            &[&[1, 257], &[1, 2]],
+            Some(BraidFault::RackEntry(1, 2, 257)),
+        ),
+        (
+            &[&[1, 2, 3], &[1, 3, 2], &[2, 1, 1]],
+            Some(BraidFault::NotBijective(3, 2, 3, 1)),
+        ),
+        (
+            &[&[2, 1], &[1, 1]],
+            Some(BraidFault::NotBijective(2, 1, 2, 1)),
+        ),
         (
             &[&[1, 2], &[2, 1]],
             Some(BraidFault::NotDistributive(2, 1, 1, 2, 1)),
         ),
-        (&[], Some(BraidFault::Unbuilt)),
-        (&[&[1, 2], &[1]], Some(BraidFault::Unbuilt)),
-        (&[&[1, 3], &[1, 2]], Some(BraidFault::Unbuilt)),
-        (&[&[0, 2], &[1, 2]], Some(BraidFault::Unbuilt)),
-        (&[&[1, 1], &[1, 2]], Some(BraidFault::Unbuilt)),
     ];
     for (rack, want) in tables {
         assert_eq!(rt;
@@ -62,6 +130,43 @@ fn racks_with_faults(rt: HostRuntime) -> Result<(), Fail> {
             "of {} rows",
             rack.len()
         );
+    }
+    Ok(())
+}
+
+#[test]
+fn faults_say_what_is_wrong(rt: HostRuntime) -> Result<(), Fail> {
+    let texts = [
+        (BraidFault::Letters(25), "25 letters, and not 1 to 24"),
+        (
+            BraidFault::RackShape(2),
+            "row 2 has not as many entries as there are rows",
+        ),
+        (
+            BraidFault::RackEntry(2, 1, -3),
+            "-3 in row 2 and column 1 is no letter",
+        ),
+        (
+            BraidFault::NotBijective(3, 1, 2, 4),
+            "3 ▷ 1 and 3 ▷ 2 are 4",
+        ),
+        (
+            BraidFault::NotDistributive(2, 1, 3, 2, 1),
+            "2 ▷ (1 ▷ 3) is 2, and (2 ▷ 1) ▷ (2 ▷ 3) is 1",
+        ),
+        (
+            BraidFault::CocycleShape(4),
+            "row 4 of the scalars is missing, surplus or of a wrong length",
+        ),
+        (BraidFault::CocycleZero(1, 2), "q(1, 2) is 0"),
+        (
+            BraidFault::NotCocycle(1, 2, 3, 5, 7),
+            "q(1, 2 ▷ 3) q(2, 3) is 5, and q(1 ▷ 2, 1 ▷ 3) q(1, 3) is 7",
+        ),
+        (BraidFault::Memory, "out of memory"),
+    ];
+    for (fault, text) in texts {
+        assert_eq!(rt; format!(in rt.alloc(); "{fault}")?.as_str(), text);
     }
     Ok(())
 }
@@ -76,27 +181,37 @@ fn racks_of_too_many_letters(rt: HostRuntime) -> Result<(), Fail> {
         rack.push(row.to_vec(alloc)?)?;
     }
     let fault = Braid::new(alloc, field, rack.as_slice(), &Scalars::Constant(1)).err();
-    assert_eq!(rt; fault, Some(BraidFault::Unbuilt));
+    assert_eq!(rt; fault, Some(BraidFault::Letters(25)));
     Ok(())
 }
 
 #[test]
 fn cocycles_with_faults(rt: HostRuntime) -> Result<(), Fail> {
     let alloc = rt.alloc();
-    let tables: [(&[&[i64]], Option<BraidFault>); 5] = [
+    let tables: [(&[&[i64]], Option<BraidFault>); 9] = [
         (&[&[1, 1, 1], &[1, 1, 1], &[1, 1, 1]], None),
-        (&[&[1, 1, 1], &[1, 1, 1]], Some(BraidFault::Unbuilt)),
+        (&[&[-1, 100, -1], &[201, -1, -1], &[-1, -1, -102]], None),
+        (&[], Some(BraidFault::CocycleShape(1))),
+        (&[&[1, 0, 1], &[1, 1, 1]], Some(BraidFault::CocycleShape(3))),
         (
-            &[&[1, 1, 1], &[1, 1, 1], &[1, 1]],
-            Some(BraidFault::Unbuilt),
+            &[&[1, 1, 1], &[1, 1, 1, 1], &[1, 1, 1], &[1, 1, 1]],
+            Some(BraidFault::CocycleShape(2)),
         ),
         (
-            &[&[1, 1, 1], &[1, 101, 1], &[1, 1, 1]],
-            Some(BraidFault::Unbuilt),
+            &[&[0, 1, 1], &[1, 1, 1], &[1, 1, 1], &[1, 1, 1], &[]],
+            Some(BraidFault::CocycleShape(4)),
+        ),
+        (
+            &[&[1, 2, 1], &[1, 1, -202], &[0, 1, 1]],
+            Some(BraidFault::CocycleZero(2, 3)),
         ),
         (
             &[&[1, 2, 1], &[1, 1, 1], &[1, 1, 1]],
-            Some(BraidFault::Unbuilt),
+            Some(BraidFault::NotCocycle(1, 3, 1, 2, 1)),
+        ),
+        (
+            &[&[1, 1, 1], &[1, 1, 1], &[1, 1, 2]],
+            Some(BraidFault::NotCocycle(1, 2, 2, 1, 2)),
         ),
     ];
     for (cocycle, want) in tables {
@@ -108,5 +223,35 @@ fn cocycles_with_faults(rt: HostRuntime) -> Result<(), Fail> {
             cocycle.len()
         );
     }
+    Ok(())
+}
+
+#[test]
+fn constants_with_faults(rt: HostRuntime) -> Result<(), Fail> {
+    let alloc = rt.alloc();
+    let scalars: [(i64, Option<BraidFault>); 3] = [
+        (-1, None),
+        (202, Some(BraidFault::CocycleZero(1, 1))),
+        (0, Some(BraidFault::CocycleZero(1, 1))),
+    ];
+    for (scalar, want) in scalars {
+        assert_eq!(rt;
+            fault(alloc, &TWO, &Scalars::Constant(scalar))?,
+            want,
+            "at {scalar}"
+        );
+    }
+    Ok(())
+}
+
+#[test]
+fn earlier_faults_come_first(rt: HostRuntime) -> Result<(), Fail> {
+    let alloc = rt.alloc();
+    let scalars = Scalars::Table(Vec::new(alloc));
+    let distributive = BraidFault::NotDistributive(2, 1, 1, 2, 1);
+    assert_eq!(rt;
+        fault(alloc, &[&[1, 2], &[2, 1]], &scalars)?,
+        Some(distributive)
+    );
     Ok(())
 }

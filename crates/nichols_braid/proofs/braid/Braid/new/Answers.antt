@@ -1,53 +1,67 @@
-use Rattle.std.proofs.Common.{◌∙◌, sym, ap, inr, map}
-use Rattle.std.proofs.lemmas.List.{length-map}
-use Rattle.nichols_braid.specs.Faults.{cocycle_table}
-use Rattle.nichols_braid.specs.Given.{given}
-use Rattle.nichols_braid.proofs.Entries.{residues_are_table}
-use Rattle.nichols_braid.proofs.Made.{HasRack, without_rack, not_bijective, not_distributive, without_cocycle, lawless, accepted_table, made_table}
+use Rattle.std.proofs.Common.{map}
+use Rattle.std.proofs.lemmas.Result.{err_from_is_err_and}
+use Rattle.nichols_braid.specs.GivenScalars.{given_scalars}
+use Rattle.nichols_braid.proofs.NewBraid.{names_rows, names_bijection, names_distributivity, are_read, is_rack, count_is, names_places, scalars_are_table, names_zero, names_law, is_braid, is_made}
 use Rattle.nichols_braid.proofs.braid.Braid.new.Goals as goal
 
-pub returns-in_default : goal.returns-in_default
-returns-in_default c = inr (without_rack c.args.field (map (λ row. row.items) c.args.rack.now) (given c.args.scalars.now) (sym (rw c.in_default.is at c.in_ok-table.ensures.entries)))
+pub returns-in_err-table : goal.returns-in_err-table
+returns-in_err-table c =
+    let p = err_from_is_err_and c.from_residual.result c.from_residual.ensures.1 in
+    rw (p.1, p.2) (names_rows c.args.field (map (λ row. row.items) c.args.rack.now) (given_scalars c.args.scalars.now) c.in_err-table.field-0.0 c.in_err-table.ensures.fault)
+
+pub returns-in-Some : goal.returns-in-Some
+returns-in-Some c = names_bijection c.args.field (map (λ row. row.items) c.args.rack.now) (given_scalars c.args.scalars.now) c.in_ok-table.table c.in-Some.fault (record { value = c.in_ok-table.ensures.value; fault = c.in_ok-table.ensures.fault }) c.in-Some.ensures
 
 pub returns-in-Some-fault : goal.returns-in-Some-fault
-returns-in-Some-fault c =
-    let rack : HasRack (map (λ row. row.items) c.args.rack.now) c.in-Some.table.letters c.in-Some.table.entries =
-    record { letters = (rw c.in-Some.is at c.in_ok-table.ensures.letters) ∙ sym (length-map c.args.rack.now _); table = sym (rw c.in-Some.is at c.in_ok-table.ensures.entries) } in
-    inr (not_bijective c.args.field _ (given c.args.scalars.now) _ _ _ rack (sym c.fault.ensures ∙ c.in-Some-fault.is))
+returns-in-Some-fault c = names_distributivity c.args.field (map (λ row. row.items) c.args.rack.now) (given_scalars c.args.scalars.now) c.in_ok-table.table c.fault.result c.in-Some-fault.fault (record { value = c.in_ok-table.ensures.value; fault = c.in_ok-table.ensures.fault }) c.fault.ensures c.in_default.is c.in-Some-fault.ensures
 
-pub returns-in-Some-fault-2 : goal.returns-in-Some-fault-2
-returns-in-Some-fault-2 c =
-    let rack : HasRack (map (λ row. row.items) c.args.rack.now) c.in-Some.table.letters c.in-Some.table.entries =
-    record { letters = (rw c.in-Some.is at c.in_ok-table.ensures.letters) ∙ sym (length-map c.args.rack.now _); table = sym (rw c.in-Some.is at c.in_ok-table.ensures.entries) } in
-    inr (not_distributive c.args.field _ (given c.args.scalars.now) _ _ _ rack (sym c.fault.ensures ∙ c.in_default-fault.is) (sym c.fault-2.ensures ∙ c.in-Some-fault-2.is))
+pub returns-in_err-cocycle : goal.returns-in_err-cocycle
+returns-in_err-cocycle c =
+    let p = err_from_is_err_and c.from_residual-in_err-cocycle.result c.from_residual-in_err-cocycle.ensures.1 in
+    rw (p.1, p.2) (names_places c.args.field (map (λ row. row.items) c.args.rack.now) (given_scalars c.args.scalars.now) c.table.inside.letters c.in_err-cocycle.field-0.0
+    (is_rack (map (λ row. row.items) c.args.rack.now) c.in_ok-table.table c.fault.result c.fault-2.result (record { value = c.in_ok-table.ensures.value; fault = c.in_ok-table.ensures.fault }) c.fault.ensures c.in_default.is c.fault-2.ensures c.in_default-fault.is)
+    (count_is (map (λ row. row.items) c.args.rack.now) c.table.inside.letters c.table.inside.entries.items c.in_ok-table.table c.table.view_is c.in_ok-table.ensures.value) c.in_err-cocycle.ensures.fault)
 
-pub returns-in_default-2 : goal.returns-in_default-2
-returns-in_default-2 c =
-    let rack : HasRack (map (λ row. row.items) c.args.rack.now) c.in-Some.table.letters c.in-Some.table.entries =
-    record { letters = (rw c.in-Some.is at c.in_ok-table.ensures.letters) ∙ sym (length-map c.args.rack.now _); table = sym (rw c.in-Some.is at c.in_ok-table.ensures.entries) } in
-    inr (without_cocycle c.args.field _ (given c.args.scalars.now) _ _ rack (sym c.fault.ensures ∙ c.in_default-fault.is) (sym c.fault-2.ensures ∙ c.in_default-fault-2.is) (ap (λ t. cocycle_table c.args.field t.letters (given c.args.scalars.now)) (sym c.table.view_is) ∙ sym (rw c.in_default-2.is at c.in_ok-cocycle.ensures)))
+pub zero_fault-requires : goal.zero_fault-requires
+zero_fault-requires c =
+    let read =
+    are_read c.args.field (map (λ row. row.items) c.args.rack.now) (given_scalars c.args.scalars.now) c.in_ok-table.table c.table.inside.letters c.table.inside.entries.items c.in_ok-cocycle.cocycle.items c.fault.result c.fault-2.result (record { value = c.in_ok-table.ensures.value; fault = c.in_ok-table.ensures.fault }) c.table.view_is
+    c.fault.ensures c.in_default.is c.fault-2.ensures c.in_default-fault.is c.in_ok-cocycle.ensures.value c.in_ok-cocycle.ensures.fault in
+    rw c.as_slice.ensures.value (scalars_are_table c.args.field c.modulus-modulus.ensures.field (map (λ row. row.items) c.args.rack.now) (given_scalars c.args.scalars.now) c.in_ok-table.table c.table.inside.letters c.in_ok-cocycle.cocycle.items read)
 
-pub is_cocycle-requires : goal.is_cocycle-requires
-is_cocycle-requires c =
-    rw c.as_slice.ensures.value (residues_are_table c.args.field c.modulus-modulus.ensures.field c.in-Some.table.letters (given c.args.scalars.now) c.in-Some-2.cocycle.items (ap (λ t. cocycle_table c.args.field t.letters (given c.args.scalars.now)) (sym c.table.view_is) ∙ sym (rw c.in-Some-2.is at c.in_ok-cocycle.ensures)))
+pub returns-in-Some-zero_fault : goal.returns-in-Some-zero_fault
+returns-in-Some-zero_fault c =
+    let read =
+    are_read c.args.field (map (λ row. row.items) c.args.rack.now) (given_scalars c.args.scalars.now) c.in_ok-table.table c.table.inside.letters c.table.inside.entries.items c.in_ok-cocycle.cocycle.items c.fault.result c.fault-2.result (record { value = c.in_ok-table.ensures.value; fault = c.in_ok-table.ensures.fault }) c.table.view_is
+    c.fault.ensures c.in_default.is c.fault-2.ensures c.in_default-fault.is c.in_ok-cocycle.ensures.value c.in_ok-cocycle.ensures.fault in
+    names_zero c.args.field (map (λ row. row.items) c.args.rack.now) (given_scalars c.args.scalars.now) c.in_ok-table.table c.table.inside.letters c.in_ok-cocycle.cocycle.items c.in-Some-zero_fault.fault read (rw c.as_slice.ensures.value at c.in-Some-zero_fault.ensures)
 
-pub returns-then-not-is_cocycle : goal.returns-then-not-is_cocycle
-returns-then-not-is_cocycle c =
-    let rack : HasRack (map (λ row. row.items) c.args.rack.now) c.in-Some.table.letters c.in-Some.table.entries =
-    record { letters = (rw c.in-Some.is at c.in_ok-table.ensures.letters) ∙ sym (length-map c.args.rack.now _); table = sym (rw c.in-Some.is at c.in_ok-table.ensures.entries) } in
-    inr (lawless c.args.field _ (given c.args.scalars.now) _ _ c.in-Some-2.cocycle.items rack (sym c.fault.ensures ∙ c.in_default-fault.is) (sym c.fault-2.ensures ∙ c.in_default-fault-2.is) (ap (λ t. cocycle_table c.args.field t.letters (given c.args.scalars.now)) (sym c.table.view_is) ∙ sym (rw c.in-Some-2.is at c.in_ok-cocycle.ensures))
-    (sym (rw c.as_slice.ensures.value at c.is_cocycle.ensures) ∙ c.if-not-is_cocycle.true))
+pub cocycle_fault-requires : goal.cocycle_fault-requires
+cocycle_fault-requires c =
+    let read =
+    are_read c.args.field (map (λ row. row.items) c.args.rack.now) (given_scalars c.args.scalars.now) c.in_ok-table.table c.table.inside.letters c.table.inside.entries.items c.in_ok-cocycle.cocycle.items c.fault.result c.fault-2.result (record { value = c.in_ok-table.ensures.value; fault = c.in_ok-table.ensures.fault }) c.table.view_is
+    c.fault.ensures c.in_default.is c.fault-2.ensures c.in_default-fault.is c.in_ok-cocycle.ensures.value c.in_ok-cocycle.ensures.fault in
+    rw c.as_slice-2.ensures.value (scalars_are_table c.args.field c.modulus-modulus.ensures.field (map (λ row. row.items) c.args.rack.now) (given_scalars c.args.scalars.now) c.in_ok-table.table c.table.inside.letters c.in_ok-cocycle.cocycle.items read)
+
+pub returns-in-Some-cocycle_fault : goal.returns-in-Some-cocycle_fault
+returns-in-Some-cocycle_fault c =
+    let read =
+    are_read c.args.field (map (λ row. row.items) c.args.rack.now) (given_scalars c.args.scalars.now) c.in_ok-table.table c.table.inside.letters c.table.inside.entries.items c.in_ok-cocycle.cocycle.items c.fault.result c.fault-2.result (record { value = c.in_ok-table.ensures.value; fault = c.in_ok-table.ensures.fault }) c.table.view_is
+    c.fault.ensures c.in_default.is c.fault-2.ensures c.in_default-fault.is c.in_ok-cocycle.ensures.value c.in_ok-cocycle.ensures.fault in
+    names_law c.args.field (map (λ row. row.items) c.args.rack.now) (given_scalars c.args.scalars.now) c.in_ok-table.table c.table.inside.letters c.in_ok-cocycle.cocycle.items c.zero_fault.result c.in-Some-cocycle_fault.fault read (rw c.as_slice.ensures.value at c.zero_fault.ensures) c.in_default-zero_fault.is (rw c.as_slice-2.ensures.value at c.in-Some-cocycle_fault.ensures)
 
 pub invariant_of-result : goal.invariant_of-result
 invariant_of-result c =
-    accepted_table c.args.field c.modulus-modulus.ensures.field (given c.args.scalars.now) c.table.inside.letters c.table.inside.entries.items c.in-Some-2.cocycle.items c.in-Some.table c.table.view_is c.table.invariant
-    (sym c.fault.ensures ∙ c.in_default-fault.is) (sym c.fault-2.ensures ∙ c.in_default-fault-2.is) (ap (λ t. cocycle_table c.args.field t.letters (given c.args.scalars.now)) (sym c.table.view_is) ∙ sym (rw c.in-Some-2.is at c.in_ok-cocycle.ensures))
-    (sym (rw c.as_slice.ensures.value at c.is_cocycle.ensures) ∙ c.if-not-is_cocycle.false)
+    let read =
+    are_read c.args.field (map (λ row. row.items) c.args.rack.now) (given_scalars c.args.scalars.now) c.in_ok-table.table c.table.inside.letters c.table.inside.entries.items c.in_ok-cocycle.cocycle.items c.fault.result c.fault-2.result (record { value = c.in_ok-table.ensures.value; fault = c.in_ok-table.ensures.fault }) c.table.view_is
+    c.fault.ensures c.in_default.is c.fault-2.ensures c.in_default-fault.is c.in_ok-cocycle.ensures.value c.in_ok-cocycle.ensures.fault in
+    is_braid c.args.field c.modulus-modulus.ensures.field (map (λ row. row.items) c.args.rack.now) (given_scalars c.args.scalars.now) c.in_ok-table.table c.table.inside.letters c.table.inside.entries.items c.in_ok-cocycle.cocycle.items read c.table.view_is
+    (record { first = c.zero_fault.result; second = c.cocycle_fault.result; zero = rw c.as_slice.ensures.value at c.zero_fault.ensures; none = c.in_default-zero_fault.is; law = rw c.as_slice-2.ensures.value at c.cocycle_fault.ensures; still = c.in_default-cocycle_fault.is })
 
 pub returns : goal.returns
 returns c =
-    let rack : HasRack (map (λ row. row.items) c.args.rack.now) c.in-Some.table.letters c.in-Some.table.entries =
-    record { letters = (rw c.in-Some.is at c.in_ok-table.ensures.letters) ∙ sym (length-map c.args.rack.now _); table = sym (rw c.in-Some.is at c.in_ok-table.ensures.entries) } in
-    made_table c.args.field _ (given c.args.scalars.now) c.table.inside.letters c.table.inside.entries.items c.in-Some-2.cocycle.items c.in-Some.table c.table.view_is rack
-    (sym c.fault.ensures ∙ c.in_default-fault.is) (sym c.fault-2.ensures ∙ c.in_default-fault-2.is) (ap (λ t. cocycle_table c.args.field t.letters (given c.args.scalars.now)) (sym c.table.view_is) ∙ sym (rw c.in-Some-2.is at c.in_ok-cocycle.ensures))
-    (sym (rw c.as_slice.ensures.value at c.is_cocycle.ensures) ∙ c.if-not-is_cocycle.false)
+    let read =
+    are_read c.args.field (map (λ row. row.items) c.args.rack.now) (given_scalars c.args.scalars.now) c.in_ok-table.table c.table.inside.letters c.table.inside.entries.items c.in_ok-cocycle.cocycle.items c.fault.result c.fault-2.result (record { value = c.in_ok-table.ensures.value; fault = c.in_ok-table.ensures.fault }) c.table.view_is
+    c.fault.ensures c.in_default.is c.fault-2.ensures c.in_default-fault.is c.in_ok-cocycle.ensures.value c.in_ok-cocycle.ensures.fault in
+    is_made c.args.field (map (λ row. row.items) c.args.rack.now) (given_scalars c.args.scalars.now) c.in_ok-table.table c.table.inside.letters c.table.inside.entries.items c.in_ok-cocycle.cocycle.items read c.table.view_is
+    (record { first = c.zero_fault.result; second = c.cocycle_fault.result; zero = rw c.as_slice.ensures.value at c.zero_fault.ensures; none = c.in_default-zero_fault.is; law = rw c.as_slice-2.ensures.value at c.cocycle_fault.ensures; still = c.in_default-cocycle_fault.is })

@@ -1,14 +1,14 @@
 use Rattle.std.proofs.Common.{◌∙◌, sym}
 use Rattle.nichols_tensor.specs.Words.{up_to}
-use Rattle.nichols_braid.specs.Faults.{first_answer, rack_fault_at, rack_fault}
-use Rattle.nichols_braid.proofs.Search.{first_answer-found, first_answer-more}
+use Rattle.nichols_braid.specs.Faults.{first_answer}
+use Rattle.nichols_braid.specs.RackLaws.{law_fault_at}
+use Rattle.nichols_braid.proofs.Search.{fault-more, fault-found}
 use Rattle.nichols_braid.proofs.tables.RackTable.fault_from.Goals as goal
 
 pub returns-then-is_some : goal.returns-then-is_some
-unfolding rack_fault
 returns-then-is_some c =
-    first_answer-found (λ j. first_answer (rack_fault_at c.args.self.now.letters c.args.self.now.entries c.args.law c.args.i j) (up_to c.args.self.now.letters)) c.loop-j.j c.args.self.now.letters c.fault_from_pair-fault.result (rw (← c.self.view_is) c.loop-j-test.true) c.loop-j.invariant c.fault_from_pair-fault.ensures (sym c.is_some.ensures ∙ c.if-is_some.true)
+    fault-found (λ j. first_answer (law_fault_at c.args.self.now c.args.law c.args.i j) (up_to c.args.self.now.letters)) c.loop-j.j c.args.self.now.letters c.fault_from_pair-fault.result (rw (← c.self.view_is) c.loop-j-test.true) c.loop-j.invariant c.fault_from_pair-fault.ensures (sym c.is_some.ensures ∙ c.if-is_some.true)
 
 pub loop-j-preserved : goal.loop-j-preserved
 loop-j-preserved c =
-    first_answer-more (λ j. first_answer (rack_fault_at c.args.self.now.letters c.args.self.now.entries c.args.law c.args.i j) (up_to c.args.self.now.letters)) c.loop-j.j c.fault_from_pair-fault.result c.loop-j.invariant c.fault_from_pair-fault.ensures (sym c.is_some.ensures ∙ c.if-is_some.false)
+    fault-more (λ j. first_answer (law_fault_at c.args.self.now c.args.law c.args.i j) (up_to c.args.self.now.letters)) c.loop-j.j c.fault_from_pair-fault.result c.loop-j.invariant c.fault_from_pair-fault.ensures (sym c.is_some.ensures ∙ c.if-is_some.false)

@@ -1,0 +1,31 @@
+-- Products of words: the composites of the letters' maps (Andruskiewitsch and Graña, "From racks to pointed Hopf algebras").
+use Rattle.std.specs.Prelude.{ℕ, ◌-◌, Bool, List, [], ◌∷◌, map, find, nat_eq, slice_index, unwrap_or}
+use Rattle.nichols_tensor.specs.Combination.{Combination, same_letters}
+use Rattle.nichols_tensor.specs.Parts.{part}
+use Rattle.nichols_tensor.specs.Words.{up_to}
+use Rattle.nichols_braid.specs.Braid.{BraidValue, act}
+
+-- where the product of a word sends a letter: the map of the last letter is applied first
+abbrev pub moved : BraidValue → List ℕ → ℕ → ℕ
+moved braid [] j = j
+moved braid (i ∷ w) j = act braid i (moved braid w j)
+
+-- the product of a word, as the list of the images of letters 1 to n
+unfoldable pub product_of : BraidValue → List ℕ → List ℕ
+product_of braid w = map (moved braid w) (up_to braid.letters)
+
+-- whether a word has this product
+abbrev pub has_product : BraidValue → List ℕ → List ℕ → Bool
+has_product braid g w = same_letters (product_of braid w) g
+
+-- the letter that i's map sends to j
+unfoldable pub unact : BraidValue → ℕ → ℕ → ℕ
+unact braid i j = unwrap_or (find (λ c. nat_eq (act braid i c) j) (up_to braid.letters)) 0
+
+-- the product before a letter: g after the inverse of the letter's map
+unfoldable pub product_before : BraidValue → ℕ → List ℕ → List ℕ
+product_before braid a g = map (λ j. slice_index g (unact braid a j - 1)) (up_to braid.letters)
+
+-- the part of a combination on the words of product g
+abbrev pub part_of_product : BraidValue → List ℕ → Combination → Combination
+part_of_product braid g f = part (has_product braid g) f
