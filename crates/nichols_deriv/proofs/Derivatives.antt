@@ -1,6 +1,6 @@
 -- Derivatives of combinations: one term more, and which words the derivative has.
-use Rattle.std.proofs.Common.{◌≡◌, ℕ, suc, ◌+◌, ◌<◌, ◌≤◌, List, [], ◌∷◌, ◌++◌, length, take, get_or, refl, sym, ◌∙◌, ap, ap₂}
-use Rattle.std.proofs.lemmas.List.{take_more, take_all}
+use Rattle.std.proofs.Common.{◌≡◌, ℕ, suc, ◌+◌, ◌<◌, ◌≤◌, List, [], ◌∷◌, ◌++◌, length, take, get_or, sym, ◌∙◌, ap, ap₂}
+use Rattle.std.proofs.lemmas.List.{append-nil, take_more, take_all}
 use Rattle.nichols_field.specs.Field.{FieldValue, IsField, plus}
 use Rattle.nichols_tensor.specs.Combination.{Term, Combination, HasSameValues, value_at, words_of, scaled, AllElements}
 use Rattle.nichols_tensor.specs.WordOrder.{IsOrdered}
@@ -13,10 +13,6 @@ use Rattle.nichols_braid.specs.Braid.{BraidValue, IsBraid, IsLetter}
 use Rattle.nichols_braid.specs.Derivation.{derived, derived_word}
 use Rattle.nichols_braid.proofs.Degrees.{derived_degree, derived_over}
 
-nothing_more : (f : Combination) → f ++ [] ≡ f
-nothing_more [] = refl
-nothing_more (t ∷ f) = ap (λ r. t ∷ r) (nothing_more f)
-
 pub derived_more : (braid : BraidValue) → IsField braid.field → (a : ℕ) (f : Combination) (i : ℕ) (t : Term) → i < length f → t ≡ get_or f i t → (before after : Combination) →
     HasSameValues braid.field before (derived braid a (take i f)) →
     ((v : List ℕ) → value_at braid.field after v ≡ plus braid.field (value_at braid.field before v) (value_at braid.field (scaled braid.field t.coefficient (derived_word braid a t.word)) v)) →
@@ -26,7 +22,7 @@ derived_more braid is a f i t within at before after same value v =
     let more : take (i + 1) f ≡ take i f ++ t ∷ [] = take_more f i t within ∙ ap (λ u. take i f ++ u ∷ []) (sym at) in
     let new : Combination = scaled k t.coefficient (derived_word braid a t.word) in
     let parts : derived braid a (take (i + 1) f) ≡ derived braid a (take i f) ++ new =
-    ap (derived braid a) more ∙ extended-append k (derived_word braid a) (take i f) (t ∷ []) ∙ ap (λ r. derived braid a (take i f) ++ r) (nothing_more new) in
+    ap (derived braid a) more ∙ extended-append k (derived_word braid a) (take i f) (t ∷ []) ∙ ap (λ r. derived braid a (take i f) ++ r) (append-nil new) in
     value v ∙ ap (λ n. plus k n (value_at k new v)) (same v) ∙ sym (value_at-append k is (derived braid a (take i f)) new v) ∙ ap (λ g. value_at k g v) (sym parts)
 
 pub derived_end : (braid : BraidValue) (a : ℕ) (k : FieldValue) (r sum terms f items : Combination) (i : ℕ) → k ≡ braid.field → sum ≡ terms → items ≡ f → length items ≤ i → HasSameValues k r sum → HasSameValues braid.field terms (derived braid a (take i items)) →

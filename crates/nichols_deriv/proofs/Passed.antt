@@ -1,11 +1,11 @@
 -- A letter that passes a word from its right end: the loop's invariant, and its steps.
 use Rattle.std.proofs.Common.{◌≡◌, ◌≢◌, ℕ, zero, suc, ◌+◌, ◌-◌, ◌<◌, ◌≤◌, Bool, true, false, cond, List, [], ◌∷◌, ◌++◌, length, map, take, drop, set, get_or, refl, sym, ◌∙◌, ap, ap₂, arith, subst, append_assoc, nat_eq, if◌then◌else◌}
-use Rattle.std.proofs.Math.Seq.{drop-cons, take-suc, drop-length}
-use Rattle.std.proofs.lemmas.List.{length-take-le, map-append}
-use Rattle.std.proofs.lemmas.Bool.Decides.{nat_tests}
+use Rattle.std.proofs.Math.Seq.{drop-cons, take-suc, drop-length, set-append_seam}
+use Rattle.std.proofs.lemmas.List.{append-nil, drop_all, length-take-le, map-append, map-id}
+use Rattle.std.proofs.lemmas.Bool.Decides.{nat_tests, Decides-eqb}
 use Rattle.nichols_field.specs.Field.{FieldValue, IsField, IsElement, plus, times}
 use Rattle.nichols_field.proofs.FieldLaws.{plus_assoc, plus_comm, plus_zero, times_is_element, times_one, times_assoc, times_comm}
-use Rattle.nichols_field.proofs.FieldAlgebra.{chosen_is_element}
+use Rattle.nichols_field.proofs.FieldAlgebra.{zero_plus, chosen_is_element}
 use Rattle.nichols_tensor.specs.Combination.{Term, Combination, value_at, same_letters, scaled, AllElements}
 use Rattle.nichols_tensor.proofs.Values.{value_is_element, value_at-append}
 use Rattle.nichols_tensor.proofs.Building.{elements-push, value_at-push}
@@ -35,20 +35,12 @@ nothing_behind : (braid : BraidValue) (a c : ℕ) (front behind : List ℕ) (v :
 unfolding derived_word
 nothing_behind braid a c front behind v e = ap (λ u. value_at braid.field (contributed braid a c front u) v) e
 
-drop_all : (w : List ℕ) → drop (length w - 1 + 1) w ≡ []
-drop_all [] = refl
-drop_all (x ∷ w) = let e : suc (length w) - 1 + 1 ≡ suc (length w) = omega arith in ap (λ n. drop n (x ∷ w)) e ∙ drop-length (x ∷ w)
-
-append_nil : (xs : List ℕ) → xs ≡ xs ++ []
-append_nil [] = refl
-append_nil (x ∷ xs) = ap (λ r. x ∷ r) (append_nil xs)
-
 pub passing_start : (braid : BraidValue) → IsField braid.field → (a c : ℕ) (w : List ℕ) (before : Combination) (n : ℕ) → n ≡ length w → IsElement braid.field c → AllElements braid.field before → IsPassing braid a c w before n (take (n - 1) w) c before
 passing_start braid is a c w before n e element elements =
     subst (λ m. IsPassing braid a c w before m (take (m - 1) w) c before) (sym e)
     (record {
       within = omega arith;
-      word = append_nil (take (length w - 1) w) ∙ ap (λ r. take (length w - 1) w ++ map (act braid a) r) (sym (drop_all w));
+      word = sym (append-nil (take (length w - 1) w)) ∙ ap (λ r. take (length w - 1) w ++ map (act braid a) r) (sym (drop_all (length w - 1 + 1) w (omega arith)));
       scalar = sym (times_one braid.field c element) ∙ ap (λ r. times braid.field c (scalars_met braid a r)) (sym (drop-length w));
       element = element;
       value = λ v. sym (plus_zero braid.field (value_at braid.field before v) (value_is_element braid.field is before v)) ∙ ap (plus braid.field (value_at braid.field before v)) (sym (nothing_behind braid a c (take (length w) w) (drop (length w) w) v (drop-length w)));
@@ -57,10 +49,7 @@ passing_start braid is a c w before n e element elements =
 
 -- ---- one letter more
 
-here : Bool → Term → Combination
-here b t = if b then t ∷ [] else []
-
-fronted_twice : (front : List ℕ) (x : ℕ) (ts : Combination) → fronted front (map (λ t. record { word = x ∷ t.word; coefficient = t.coefficient }) ts) ≡ fronted (front ++ x ∷ []) ts
+pub fronted_twice : (front : List ℕ) (x : ℕ) (ts : Combination) → fronted front (map (λ t. record { word = x ∷ t.word; coefficient = t.coefficient }) ts) ≡ fronted (front ++ x ∷ []) ts
 fronted_twice front x [] = refl
 fronted_twice front x (t ∷ ts) = ap₂ (λ (u : Term) (us : Combination). u ∷ us) (let e : front ++ x ∷ t.word ≡ (front ++ x ∷ []) ++ t.word = sym (append_assoc front (x ∷ []) t.word) in ap (λ (w : List ℕ). record { word = w; coefficient = t.coefficient }) e) (fronted_twice front x ts)
 
@@ -84,22 +73,18 @@ contributed_more braid is a c u x r v =
     ∙ value_at-append k is (scaled k c (fronted u first)) (scaled k c (fronted u rest)) v
     ∙ ap₂ (plus k) (contributed_here k is c u (nat_eq a x) t v) (ap (λ f. value_at k (scaled k c f) v) (fronted_twice u x (derived_word braid a r)))
 
-set_between : (u r : List ℕ) (n y z : ℕ) → n ≡ length u → set (u ++ y ∷ r) n z ≡ u ++ z ∷ r
-set_between [] r zero y z e = refl
-set_between [] r (suc n) y z e = absurd (omega arith)
-set_between (x ∷ u) r zero y z e = absurd (omega arith)
-set_between (x ∷ u) r (suc n) y z e = ap (λ s. x ∷ s) (set_between u r n y z (omega arith))
-
 passed_on : (braid : BraidValue) (a : ℕ) (w : List ℕ) (n : ℕ) (passed : List ℕ) → suc n < length w → passed ≡ take (suc n) w ++ map (act braid a) (drop (suc n + 1) w) →
     set passed n (act braid a (get_or w (suc n) 0)) ≡ take n w ++ map (act braid a) (drop (n + 1) w)
 passed_on braid a w n passed within e =
     let few : n < length w = omega arith in
     let next : suc n + 1 ≡ suc (suc n) = omega arith in
     let here : n + 1 ≡ suc n = omega arith in
-    let shape : passed ≡ take n w ++ get_or w n 0 ∷ map (act braid a) (drop (suc (suc n)) w) =
-    e ∙ ap₂ (λ f r. f ++ map (act braid a) r) (take-suc w n 0 few) (ap (λ i. drop i w) next) ∙ append_assoc (take n w) (get_or w n 0 ∷ []) (map (act braid a) (drop (suc (suc n)) w)) in
+    let behind : List ℕ = map (act braid a) (drop (suc (suc n)) w) in
+    let shape : passed ≡ take n w ++ get_or w n 0 ∷ behind =
+    e ∙ ap₂ (λ f r. f ++ map (act braid a) r) (take-suc w n 0 few) (ap (λ i. drop i w) next) ∙ append_assoc (take n w) (get_or w n 0 ∷ []) behind in
     ap (λ p. set p n (act braid a (get_or w (suc n) 0))) shape
-    ∙ set_between (take n w) (map (act braid a) (drop (suc (suc n)) w)) n (get_or w n 0) (act braid a (get_or w (suc n) 0)) (sym (length-take-le n w (omega arith)))
+    ∙ ap (λ i. set (take n w ++ get_or w n 0 ∷ behind) i (act braid a (get_or w (suc n) 0))) (sym (length-take-le n w (omega arith)))
+    ∙ set-append_seam (take n w) (get_or w n 0) behind (act braid a (get_or w (suc n) 0))
     ∙ ap (λ r. take n w ++ map (act braid a) r) (sym (drop-cons w (suc n) 0 within) ∙ ap (λ i. drop i w) (sym here))
 
 -- the word after a step: with the letter before the place that was passed replaced, if there is one
@@ -161,7 +146,7 @@ passing-other braid is a c w before (suc m) n passed met out some e h x at other
       word = word ∙ ap₂ (λ i y. stepped braid a i passed y) same here ∙ stepped_word braid a w m passed within (h.word ∙ ap (λ i. take i w ++ map (act braid a) (drop (i + 1) w)) (let less : suc m - 1 ≡ m = omega arith in less));
       scalar = product ∙ ap (λ y. times k met (scalar braid a y)) here ∙ stepped_scalar braid a c w m met within h.scalar;
       element = subst (IsElement k) (sym product) (times_is_element k met (scalar braid a x) is);
-      value = λ v. h.value v ∙ ap (plus k (value_at k before v)) (sym (stepped_value braid is a c w before m passed met out within h v ∙ ap (λ b. plus k (cond b (cond (same_letters passed v) met 0) 0) (rest v)) apart ∙ zero_first k is (contributed braid a c (take (suc m) w) (drop (suc m) w)) v));
+      value = λ v. h.value v ∙ ap (plus k (value_at k before v)) (sym (stepped_value braid is a c w before m passed met out within h v ∙ ap (λ b. plus k (cond b (cond (same_letters passed v) met 0) 0) (rest v)) apart ∙ zero_plus k (rest v) (value_is_element k is (contributed braid a c (take (suc m) w) (drop (suc m) w)) v)));
       elements = h.elements;
     })
   where
@@ -170,9 +155,6 @@ passing-other braid is a c w before (suc m) n passed met out some e h x at other
 
     different : (a x : ℕ) → a ≢ x → nat_eq a x ≡ false
     different a x d = grind (arith, nat_tests)
-
-    zero_first : (k : FieldValue) → IsField k → (f : Combination) (v : List ℕ) → plus k 0 (value_at k f v) ≡ value_at k f v
-    zero_first k is f v = plus_comm k 0 (value_at k f v) ∙ plus_zero k (value_at k f v) (value_is_element k is f v)
 
 -- a step at a letter a
 pub passing-here : (braid : BraidValue) → IsField braid.field → (a c : ℕ) (w : List ℕ) (before : Combination) (left n : ℕ) (passed : List ℕ) (met : ℕ) (out : Combination) → 0 < left → n ≡ left - 1 → IsPassing braid a c w before left passed met out →
@@ -185,7 +167,7 @@ passing-here braid is a c w before (suc m) n passed met out some e h x at same_l
     let here : x ≡ get_or w m 0 = at ∙ ap (λ i. get_or w i 0) same in
     let k : FieldValue = braid.field in
     let t : Term = record { word = passed; coefficient = met } in
-    let found : nat_eq a (get_or w m 0) ≡ true = ap (nat_eq a) (sym here) ∙ equal a x same_letter in
+    let found : nat_eq a (get_or w m 0) ≡ true = ap (nat_eq a) (sym here) ∙ (Decides-eqb a x).1 same_letter in
     record {
       within = omega arith;
       word = word ∙ ap₂ (λ i y. stepped braid a i passed y) same here ∙ stepped_word braid a w m passed within (h.word ∙ ap (λ i. take i w ++ map (act braid a) (drop (i + 1) w)) (let less : suc m - 1 ≡ m = omega arith in less));
@@ -203,17 +185,10 @@ passing-here braid is a c w before (suc m) n passed met out some e h x at same_l
     new : List ℕ → ℕ
     new v = cond (same_letters passed v) met 0
 
-    equal : (a x : ℕ) → a ≡ x → nat_eq a x ≡ true
-    equal a x d = grind (arith, nat_tests)
-
 -- ---- the end
-
-fronted_nothing : (f : Combination) → fronted [] f ≡ f
-fronted_nothing [] = refl
-fronted_nothing (t ∷ f) = ap (λ r. t ∷ r) (fronted_nothing f)
 
 pub passed_all : (braid : BraidValue) (a c : ℕ) (w : List ℕ) (before : Combination) (left : ℕ) (passed : List ℕ) (met : ℕ) (out : Combination) → left ≡ 0 → IsPassing braid a c w before left passed met out → (v : List ℕ) →
     value_at braid.field out v ≡ plus braid.field (value_at braid.field before v) (value_at braid.field (scaled braid.field c (derived_word braid a w)) v)
 passed_all braid a c w before left passed met out e h v =
     h.value v ∙ ap (λ i. plus braid.field (value_at braid.field before v) (value_at braid.field (contributed braid a c (take i w) (drop i w)) v)) e
-    ∙ ap (λ f. plus braid.field (value_at braid.field before v) (value_at braid.field (scaled braid.field c f) v)) (fronted_nothing (derived_word braid a w))
+    ∙ ap (λ f. plus braid.field (value_at braid.field before v) (value_at braid.field (scaled braid.field c f) v)) (map-id (derived_word braid a w))

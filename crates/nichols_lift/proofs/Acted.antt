@@ -32,9 +32,6 @@ pair_letters false false h ab a n r e bx x' = refl
 above : (e m n : ℕ) → m < n → nat_lt e m ≡ true → nat_lt e n ≡ true
 above e m n h t = grind (arith, nat_tests)
 
-both_ways : (t : Bool) (k l m n : ℕ) → k ≡ l → m ≡ n → cond t k m ≡ cond t l n
-both_ways t k l m n p q = ap₂ (cond t) p q
-
 -- what a later letter becomes: b and then a act on it, or after the crossing a and then a ▷ b
 pub acted-crossed : (braid : BraidValue) → IsRack braid → (before ps : List Placed) (ea a eb b : ℕ) → eb < ea → IsLetter braid a → IsLetter braid b → AllLetters braid before → (e x : ℕ) → IsLetter braid x →
     acted braid (before ++ placed eb b ∷ placed ea a ∷ ps) e x ≡ acted braid (before ++ placed ea a ∷ placed eb (act braid a b) ∷ ps) e x
@@ -43,7 +40,7 @@ acted-crossed braid rack [] ps ea a eb b h la lb all e x lx =
     pair_letters (nat_lt e eb) (nat_lt e ea) (above e eb ea h) (acted braid ps e (act braid a (act braid b x))) (acted braid ps e (act braid a x)) (acted braid ps e x) (acted braid ps e (act braid (act braid a b) (act braid a x)))
     (ap (acted braid ps e) (rack.distributive a b x la lb lx)) (acted braid ps e (act braid b x)) (acted braid ps e (act braid (act braid a b) x))
 acted-crossed braid rack (p ∷ before) ps ea a eb b h la lb all e x lx =
-    both_ways (nat_lt e p.place) _ _ _ _ (acted-crossed braid rack before ps ea a eb b h la lb all.1 e (act braid p.letter x) (rack.closed p.letter x all.0 lx)) (acted-crossed braid rack before ps ea a eb b h la lb all.1 e x lx)
+    ap₂ (cond (nat_lt e p.place)) (acted-crossed braid rack before ps ea a eb b h la lb all.1 e (act braid p.letter x) (rack.closed p.letter x all.0 lx)) (acted-crossed braid rack before ps ea a eb b h la lb all.1 e x lx)
 
 pair_scalars : (k : FieldValue) (t u : Bool) → (t ≡ true → u ≡ true) → (qb qab qa qaab r r' only none other unused : ℕ) → times k qb (times k qab r) ≡ times k qa (times k qaab r') →
     cond t (times k qb (cond u (times k qab r) unused)) (cond u (times k qa only) none) ≡ cond u (times k qa (cond t (times k qaab r') only)) (cond t other none)
@@ -60,16 +57,16 @@ scalars-crossed braid rack cocycle [] ps ea a eb b h la lb all e x lx =
     pair_scalars braid.field (nat_lt e eb) (nat_lt e ea) (above e eb ea h) (scalar braid b x) (scalar braid a (act braid b x)) (scalar braid a x) (scalar braid (act braid a b) (act braid a x))
     (acted_scalar braid ps e (act braid a (act braid b x))) (acted_scalar braid ps e (act braid (act braid a b) (act braid a x))) (acted_scalar braid ps e (act braid a x)) (acted_scalar braid ps e x)
     (times braid.field (scalar braid (act braid a b) x) (acted_scalar braid ps e (act braid (act braid a b) x))) (acted_scalar braid ps e (act braid b x))
-    (braided (acted_scalar braid ps e (act braid a (act braid b x))) (acted_scalar braid ps e (act braid (act braid a b) (act braid a x))) (ap (acted_scalar braid ps e) (rack.distributive a b x la lb lx)))
+    (same_by_cocycle (acted_scalar braid ps e (act braid a (act braid b x))) (acted_scalar braid ps e (act braid (act braid a b) (act braid a x))) (ap (acted_scalar braid ps e) (rack.distributive a b x la lb lx)))
   where
-    braided : (r r' : ℕ) → r ≡ r' → times braid.field (scalar braid b x) (times braid.field (scalar braid a (act braid b x)) r) ≡ times braid.field (scalar braid a x) (times braid.field (scalar braid (act braid a b) (act braid a x)) r')
-    braided r r' e =
+    same_by_cocycle : (r r' : ℕ) → r ≡ r' → times braid.field (scalar braid b x) (times braid.field (scalar braid a (act braid b x)) r) ≡ times braid.field (scalar braid a x) (times braid.field (scalar braid (act braid a b) (act braid a x)) r')
+    same_by_cocycle r r' e =
         sym (times_assoc braid.field (scalar braid b x) (scalar braid a (act braid b x)) r)
         ∙ ap (λ n. times braid.field n r) (times_comm braid.field (scalar braid b x) (scalar braid a (act braid b x)) ∙ cocycle.law a b x la lb lx ∙ times_comm braid.field (scalar braid (act braid a b) (act braid a x)) (scalar braid a x))
         ∙ times_assoc braid.field (scalar braid a x) (scalar braid (act braid a b) (act braid a x)) r
         ∙ ap (λ n. times braid.field (scalar braid a x) (times braid.field (scalar braid (act braid a b) (act braid a x)) n)) e
 scalars-crossed braid rack cocycle (p ∷ before) ps ea a eb b h la lb all e x lx =
-    both_ways (nat_lt e p.place) _ _ _ _ (ap (times braid.field (scalar braid p.letter x)) (scalars-crossed braid rack cocycle before ps ea a eb b h la lb all.1 e (act braid p.letter x) (rack.closed p.letter x all.0 lx))) (scalars-crossed braid rack cocycle before ps ea a eb b h la lb all.1 e x lx)
+    ap₂ (cond (nat_lt e p.place)) (ap (times braid.field (scalar braid p.letter x)) (scalars-crossed braid rack cocycle before ps ea a eb b h la lb all.1 e (act braid p.letter x) (rack.closed p.letter x all.0 lx))) (scalars-crossed braid rack cocycle before ps ea a eb b h la lb all.1 e x lx)
 
 -- what all later letters become
 pub ended-crossed : (braid : BraidValue) → IsRack braid → (before ps : List Placed) (ea a eb b : ℕ) → eb < ea → IsLetter braid a → IsLetter braid b → AllLetters braid before → (ends w : List ℕ) → IsWordOver braid.letters w →

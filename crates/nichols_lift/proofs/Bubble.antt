@@ -92,11 +92,11 @@ inversions_bound (a ∷ ends) =
     let n : ℕ = length ends in
     let first : lesser a ends ≤ n = lesser_bound a ends in
     let rest : inversions ends ≤ n * n = inversions_bound ends in
-    let square : suc n * suc n ≡ n * n + n + n + 1 = squared n in
+    let square : suc n * suc n ≡ n * n + n + n + 1 = next_square n in
     omega arith
   where
-    squared : (n : ℕ) → suc n * suc n ≡ n * n + n + n + 1
-    squared n = grind arith
+    next_square : (n : ℕ) → suc n * suc n ≡ n * n + n + n + 1
+    next_square n = grind arith
 
 -- ---- the list
 

@@ -26,15 +26,15 @@ scalar_behind : (braid : BraidValue) (front : List ℕ) (a b : ℕ) (u : List �
 scalar_behind braid [] a b u = refl
 scalar_behind braid (x ∷ front) a b u = scalar_behind braid front a b u
 
-pub carried : (braid : BraidValue) → IsField braid.field → (front : List ℕ) (a : ℕ) (u : List ℕ) (c : ℕ) → IsElement braid.field c →
+pub carried_to_end : (braid : BraidValue) → IsField braid.field → (front : List ℕ) (a : ℕ) (u : List ℕ) (c : ℕ) → IsElement braid.field c →
     crossed braid (consecutive (suc (length front)) (length u)) (term (front ++ a ∷ u) c) ≡ term (front ++ (map (act braid a) u ++ a ∷ [])) (times braid.field c (scalars_met braid a u))
-carried braid is front a [] c e = ap (term (front ++ a ∷ [])) (sym (times_one braid.field c e))
-carried braid is front a (b ∷ u) c e =
+carried_to_end braid is front a [] c e = ap (term (front ++ a ∷ [])) (sym (times_one braid.field c e))
+carried_to_end braid is front a (b ∷ u) c e =
     let next : List ℕ = front ++ act braid a b ∷ [] in
     let d : ℕ = times braid.field c (scalar braid a b) in
     ap₂ (λ w s. crossed braid (consecutive (suc (suc (length front))) (length u)) (term w (times braid.field c s))) (cross_behind braid front a b u ∙ sym (append_assoc front (act braid a b ∷ []) (a ∷ u))) (scalar_behind braid front a b u)
     ∙ ap (λ n. crossed braid (consecutive (suc n) (length u)) (term (next ++ a ∷ u) d)) (sym (pushed_length front (act braid a b)))
-    ∙ carried braid is next a u d (times_is_element braid.field c (scalar braid a b) is)
+    ∙ carried_to_end braid is next a u d (times_is_element braid.field c (scalar braid a b) is)
     ∙ ap₂ term (append_assoc front (act braid a b ∷ []) (map (act braid a) u ++ a ∷ [])) (times_assoc braid.field c (scalar braid a b) (scalars_met braid a u))
 
 -- ---- a greatest entry is carried to the end

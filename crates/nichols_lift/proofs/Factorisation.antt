@@ -1,7 +1,7 @@
 -- The symmetrizer factors through the skew derivations.
-use Rattle.std.proofs.Common.{◌≡◌, ℕ, suc, Bool, true, false, cond, List, [], ◌∷◌, ◌++◌, map, length, refl, sym, ◌∙◌, ap, ap₂, nat_eq, append_assoc}
+use Rattle.std.proofs.Common.{◌≡◌, ℕ, suc, Bool, true, false, cond, List, [], ◌∷◌, ◌++◌, map, length, refl, sym, ◌∙◌, ap, ap₂, nat_eq}
 use Rattle.std.specs.List.{flat_map, AllByRecursion}
-use Rattle.std.proofs.lemmas.List.{append-nil, map-append}
+use Rattle.std.proofs.lemmas.List.{append-nil, map-append, map-id}
 use Rattle.std.proofs.lemmas.Bool.Decides.{Decides-eqb}
 use Rattle.nichols_field.specs.Field.{FieldValue, IsField, plus}
 use Rattle.nichols_tensor.specs.Combination.{Term, Combination, value_at, HasSameValues, single, scaled, extended}
@@ -14,6 +14,7 @@ use Rattle.nichols_braid.specs.Derivation.{scalars_met, derived_word, derived}
 use Rattle.nichols_braid.specs.RightProduct.{times_letter}
 use Rattle.nichols_braid.proofs.Maps.{extended_same, extended_same_on, extended-sum, extended-extended, times_letter_is_extended, times_letter-append}
 use Rattle.nichols_braid.proofs.Rule.{here, map-here}
+use Rattle.nichols_deriv.proofs.Passed.{fronted, fronted_twice}
 use Rattle.nichols_lift.proofs.Reduced.{term}
 use Rattle.nichols_lift.proofs.Summands.{Summand, summands, lifted, lifts_are_summands}
 use Rattle.nichols_lift.proofs.Totals.{total, total_same, total-plus, total_zero, one_letter, value_at-flat_map}
@@ -24,36 +25,24 @@ rests_of : ℕ → List Summand → Combination
 rests_of a [] = []
 rests_of a (s ∷ ss) = here (nat_eq a s.letter) s.rest ++ rests_of a ss
 
-fronted : List ℕ → Term → Term
-fronted front t = record { word = front ++ t.word; coefficient = t.coefficient }
-
 here_same : (c : Bool) (s t : Term) → (c ≡ true → s ≡ t) → here c s ≡ here c t
 unfolding here
 here_same true s t h = ap (λ x. x ∷ []) (h refl)
 here_same false s t h = refl
 
-fronted_twice : (front : List ℕ) (x : ℕ) (ts : Combination) → map (fronted front) (map (λ t. term (x ∷ t.word) t.coefficient) ts) ≡ map (fronted (front ++ x ∷ [])) ts
-unfolding fronted
-fronted_twice front x [] = refl
-fronted_twice front x (t ∷ ts) = ap₂ (λ w r. term w t.coefficient ∷ r) (sym (append_assoc front (x ∷ []) t.word)) (fronted_twice front x ts)
-
-derived_are_rests : (braid : BraidValue) (a : ℕ) (front u : List ℕ) → map (fronted front) (derived_word braid a u) ≡ rests_of a (summands braid front u)
-unfolding derived_word rests_of here fronted
+derived_are_rests : (braid : BraidValue) (a : ℕ) (front u : List ℕ) → fronted front (derived_word braid a u) ≡ rests_of a (summands braid front u)
+unfolding derived_word rests_of here
 derived_are_rests braid a front [] = refl
 derived_are_rests braid a front (x ∷ u) =
     let now : Term = term (map (act braid a) u) (scalars_met braid a u) in
-    map-append (fronted front) (here (nat_eq a x) now) (map (λ t. term (x ∷ t.word) t.coefficient) (derived_word braid a u))
+    let put_front : Term → Term = λ t. term (front ++ t.word) t.coefficient in
+    map-append put_front (here (nat_eq a x) now) (map (λ t. term (x ∷ t.word) t.coefficient) (derived_word braid a u))
     ∙ ap₂ (λ f r. f ++ r)
-    (map-here (fronted front) (nat_eq a x) now ∙ here_same (nat_eq a x) (fronted front now) (term (front ++ map (act braid x) u) (scalars_met braid x u)) (λ e. ap (λ y. term (front ++ map (act braid y) u) (scalars_met braid y u)) ((Decides-eqb a x).0 e)))
+    (map-here put_front (nat_eq a x) now ∙ here_same (nat_eq a x) (put_front now) (term (front ++ map (act braid x) u) (scalars_met braid x u)) (λ e. ap (λ y. term (front ++ map (act braid y) u) (scalars_met braid y u)) ((Decides-eqb a x).0 e)))
     (fronted_twice front x (derived_word braid a u) ∙ derived_are_rests braid a (front ++ x ∷ []) u)
 
-unfronted : (ts : Combination) → map (fronted []) ts ≡ ts
-unfolding fronted
-unfronted [] = refl
-unfronted (t ∷ ts) = ap (λ r. t ∷ r) (unfronted ts)
-
 derived_word_is_rests : (braid : BraidValue) (a : ℕ) (w : List ℕ) → derived_word braid a w ≡ rests_of a (summands braid [] w)
-derived_word_is_rests braid a w = sym (unfronted (derived_word braid a w)) ∙ derived_are_rests braid a [] w
+derived_word_is_rests braid a w = sym (map-id (derived_word braid a w)) ∙ derived_are_rests braid a [] w
 
 -- ---- the sum over the letters is the sum over the summands
 

@@ -1,10 +1,10 @@
 -- The kernel of the symmetrizer is what all chains of derivations kill.
 use Rattle.std.proofs.Common.{◌≡◌, ℕ, zero, suc, ◌≤◌, Bool, true, false, cond, ◌&&◌, List, [], ◌∷◌, ◌++◌, length, refl, sym, ◌∙◌, ap, ap₂, arith, nat_eq}
-use Rattle.std.specs.List.{flat_map, AllByRecursion}
+use Rattle.std.proofs.Math.Bool.{and_assoc}
+use Rattle.std.specs.List.{flat_map, AllByRecursion, Contains}
 use Rattle.std.proofs.lemmas.Bool.Decides.{Decides-eqb}
 use Rattle.nichols_field.specs.Field.{FieldValue, IsField, plus}
 use Rattle.nichols_field.proofs.FieldLaws.{plus_zero, zero_is_element}
-use Rattle.nichols_tensor.specs.Members.{IsIn}
 use Rattle.nichols_tensor.specs.Combination.{Combination, value_at, HasSameValues, single, same_letters}
 use Rattle.nichols_tensor.specs.Words.{up_to, IsOver, HasDegree}
 use Rattle.nichols_tensor.proofs.Values.{value_is_element}
@@ -40,15 +40,11 @@ shorter : (v : List ℕ) (a : ℕ) → same_letters (v ++ a ∷ []) [] ≡ false
 shorter [] a = refl
 shorter (y ∷ v) a = refl
 
-grouped : (s t u : Bool) → (s && (t && u)) ≡ ((s && t) && u)
-grouped true t u = refl
-grouped false t u = refl
-
 pushed_letters : (u v : List ℕ) (b a : ℕ) → same_letters (u ++ b ∷ []) (v ++ a ∷ []) ≡ (same_letters u v && nat_eq b a)
 pushed_letters [] [] b a = one_more (nat_eq b a)
 pushed_letters [] (y ∷ v) b a = ap (λ t. nat_eq b y && t) (longer v a) ∙ no_more (nat_eq b y) b a
 pushed_letters (x ∷ u) [] b a = ap (λ t. nat_eq x a && t) (shorter u b) ∙ no_more (nat_eq x a) b a
-pushed_letters (x ∷ u) (y ∷ v) b a = ap (λ t. nat_eq x y && t) (pushed_letters u v b a) ∙ grouped (nat_eq x y) (same_letters u v) (nat_eq b a)
+pushed_letters (x ∷ u) (y ∷ v) b a = ap (λ t. nat_eq x y && t) (pushed_letters u v b a) ∙ sym (and_assoc (nat_eq x y) (same_letters u v) (nat_eq b a))
 
 value_at-times_letter : (k : FieldValue) → IsField k → (f : Combination) (b : ℕ) (v : List ℕ) (a : ℕ) → value_at k (times_letter f b) (v ++ a ∷ []) ≡ cond (nat_eq b a) (value_at k f v) 0
 value_at-times_letter k is [] b v a = at (nat_eq b a)
@@ -107,7 +103,7 @@ killed_in_kernel braid is (suc m) f degree over h = λ a l.
 pub in_kernel_killed : (braid : BraidValue) → IsBraid braid → (m : ℕ) (f : Combination) → HasDegree m f → IsOver braid.letters f → IsKilled braid m f → IsInKernel braid f
 in_kernel_killed braid is zero f degree over h = λ w. symmetrized_0 braid is.field f degree w ∙ h w
 in_kernel_killed braid is (suc m) f degree over h =
-    let gone : (a : ℕ) → IsIn a (up_to braid.letters) → IsInKernel braid (derived braid a f) =
+    let gone : (a : ℕ) → Contains (up_to braid.letters) a → IsInKernel braid (derived braid a f) =
     λ a i. in_kernel_killed braid is m (derived braid a f) (derived_degree braid a m f degree) (derived_over braid is.rack a (from_up_to braid.letters a i) f over) (h a (from_up_to braid.letters a i)) in
     λ w.
     factors braid is m f degree over w

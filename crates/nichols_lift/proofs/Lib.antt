@@ -11,6 +11,7 @@ pub mod Totals
 pub mod Factorisation
 pub mod Kernel
 pub mod Readings
+pub mod LeftReadings
 pub mod Parts
 pub mod Recursion
 pub mod Leading

@@ -1,6 +1,7 @@
 -- The image of a combination of words of any lengths under the quantum symmetrizer: its constant term, and a part for each letter.
 use Rattle.std.proofs.Common.{◌≡◌, ℕ, zero, suc, ◌≤◌, Bool, true, false, cond, List, [], ◌∷◌, ◌++◌, length, map, refl, sym, ◌∙◌, ap, ap₂, subst, arith, nat_eq, if◌then◌else◌}
 use Rattle.std.specs.List.{AllByRecursion, flat_map}
+use Rattle.std.proofs.lemmas.List.{length-map}
 use Rattle.nichols_field.specs.Field.{FieldValue, IsField, IsElement, plus, times}
 use Rattle.nichols_field.proofs.FieldLaws.{plus_zero, plus_is_element, zero_is_element, times_is_element}
 use Rattle.nichols_field.proofs.FieldAlgebra.{zero_plus}
@@ -20,7 +21,8 @@ use Rattle.nichols_braid.proofs.Maps.{extended_same_on, extended-sum, plus_times
 use Rattle.nichols_braid.proofs.Degrees.{AllWords, words-append, words-extended}
 use Rattle.nichols_lift.specs.Lengths.{AllAtMost}
 use Rattle.nichols_lift.proofs.Totals.{total, total_zero, value_at-flat_map}
-use Rattle.nichols_lift.proofs.Step.{cross_length, cross_over}
+use Rattle.nichols_braid.proofs.Products.{cross_over}
+use Rattle.nichols_lift.proofs.Step.{cross_length}
 use Rattle.nichols_lift.proofs.Factorisation.{part, lifts_factor, extended-flat_map, extended_part, same_flat_maps}
 use Rattle.nichols_lift.proofs.Kernel.{lifts_of_empty}
 
@@ -139,10 +141,6 @@ times_short : (braid : BraidValue) (a x limit : ℕ) (f : Combination) → AllAt
 times_short braid a x limit [] h = tt
 times_short braid a x limit (t ∷ f) h = (omega (arith, h.0), times_short braid a x limit f h.1)
 
-map_length : (f : ℕ → ℕ) (xs : List ℕ) → length (map f xs) ≡ length xs
-map_length f [] = refl
-map_length f (x ∷ xs) = ap suc (map_length f xs)
-
 derived_word_short : (braid : BraidValue) (a limit : ℕ) (w : List ℕ) → length w ≤ suc limit → AllAtMost limit (derived_word braid a w)
 unfolding derived_word
 derived_word_short braid a limit [] h = tt
@@ -156,7 +154,7 @@ derived_word_short braid a (suc limit) (x ∷ w) h =
     words-append (λ v. length v ≤ suc limit) _ _ (here (nat_eq a x)) (times_short braid a x limit (derived_word braid a w) (derived_word_short braid a limit w (omega arith)))
   where
     here : (b : Bool) → AllAtMost (suc limit) (if b then record { word = map (act braid a) w; coefficient = scalars_met braid a w } ∷ [] else [])
-    here true = (let e : length (map (act braid a) w) ≡ length w = map_length (act braid a) w in omega arith, tt)
+    here true = (let e : length (map (act braid a) w) ≡ length w = length-map w (act braid a) in omega arith, tt)
     here false = tt
 
 pub derived_short : (braid : BraidValue) (a limit : ℕ) (f r : Combination) → IsField braid.field → AllElements braid.field r → IsOrdered r → HasSameValues braid.field r (derived braid a f) → AllAtMost (suc limit) f → AllAtMost limit r

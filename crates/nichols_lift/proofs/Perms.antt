@@ -1,75 +1,54 @@
 -- Permutations of few places in an array, and the test of being one.
-use Rattle.std.proofs.Common.{◌≡◌, ℕ, zero, suc, ◌+◌, ◌-◌, ◌<◌, ◌≤◌, true, false, cond, List, [], ◌∷◌, ◌++◌, length, take, drop, get_or, set, refl, sym, ◌∙◌, ap, subst, arith, nat_eq, nat_lt, ◌⊎◌, inl, inr, Option, None, Some}
+use Rattle.std.proofs.Common.{◌≡◌, ℕ, zero, suc, ◌+◌, ◌-◌, ◌<◌, ◌≤◌, true, false, cond, List, [], ◌∷◌, length, take, drop, get_or, set, refl, sym, ◌∙◌, ap, subst, arith, nat_eq, nat_lt, inl, inr, Option, None, Some}
 use Rattle.std.specs.Option.{option_map}
-use Rattle.std.specs.List.{IsDistinct, list_any, swap}
-use Rattle.std.specs.List.Sorted.{IsPermutation}
-use Rattle.std.proofs.lemmas.List.{length-append, length-drop}
+use Rattle.std.specs.List.{Contains, list_any, swap}
+use Rattle.std.proofs.lemmas.List.{length-drop}
 use Rattle.std.proofs.Math.Seq.{drop-cons}
 use Rattle.std.proofs.lemmas.Bool.Decides.{nat_tests, Decides-eqb}
-use Rattle.std.proofs.lemmas.List.Sorted.{IsPermutation-refl, IsPermutation-cons, IsPermutation-sym, IsPermutation-trans, IsPermutation-middle, Contains-permutation}
+use Rattle.std.proofs.lemmas.List.Sorted.{IsPermutation-trans, Contains-permutation}
 use Rattle.nichols_tensor.specs.Inline.{IsInline, length_kept}
-use Rattle.nichols_tensor.specs.Members.{IsIn}
 use Rattle.nichols_tensor.specs.Words.{up_to, IsLetterOf}
-use Rattle.nichols_tensor.proofs.Entries.{in_either, in_left, in_right, in_from_contains, contains_from_in, any_of, some_of}
-use Rattle.nichols_tensor.proofs.Over.{all_at}
+use Rattle.nichols_tensor.proofs.Entries.{any_of, some_of}
 use Rattle.std.proofs.lemmas.Bool.{cases_lt}
 use Rattle.nichols_tensor.proofs.Letters.{in_up_to, from_up_to, up_to_length}
 use Rattle.nichols_braid.specs.Rearrangement.{IsRearrangement}
 use Rattle.nichols_braid.specs.Lift.{exchanged, IsDescentAt, first_descent}
-use Rattle.nichols_braid.proofs.Counts.{in_front_and_rest}
+use Rattle.nichols_braid.proofs.Onto.{rearranged_if_all}
 use Rattle.nichols_braid.proofs.Rearranged.{up_to_distinct}
-use Rattle.nichols_lift.specs.Perm.{IsPerm, place_limit}
+use Rattle.nichols_lift.specs.declared.TheConstants.{PLACE_LIMIT}
+use Rattle.nichols_lift.specs.Perm.{IsPerm}
 use Rattle.nichols_lift.proofs.Step.{exchanged_is_permutation, exchanged_length}
 use Rattle.nichols_lift.proofs.Leading.{descent_within}
 
 -- ---- each of 1 to the number of entries stands among them
 
-rearranged_if_all : (xs ys : List ℕ) → IsDistinct nat_eq xs → ((x : ℕ) → IsIn x xs → IsIn x ys) → length ys ≡ length xs → IsPermutation xs ys
-unfolding IsIn IsDistinct
-rearranged_if_all [] [] d h e = IsPermutation-refl []
-rearranged_if_all [] (y ∷ ys) d h e = absurd (omega arith)
-rearranged_if_all (x ∷ xs) ys d h e =
-    let (front, rest, same) = in_front_and_rest x ys (h x (inl refl)) in
-    let size : length front + suc (length rest) ≡ suc (length xs) = sym (length-append front (x ∷ rest)) ∙ ap length (sym same) ∙ e in
-    let fewer : length (front ++ rest) ≡ length xs = length-append front rest ∙ (let n : length front + length rest ≡ length xs = omega arith in n) in
-    subst (IsPermutation (x ∷ xs)) (sym same)
-    (IsPermutation-trans (x ∷ xs) (x ∷ (front ++ rest)) (front ++ x ∷ rest)
-    (IsPermutation-cons x xs (front ++ rest) (rearranged_if_all xs (front ++ rest) d.1 (λ z i. others z i front rest (in_either z front (x ∷ rest) (subst (IsIn z) same (h z (inr i))))) fewer))
-    (IsPermutation-sym (front ++ x ∷ rest) (x ∷ (front ++ rest)) (IsPermutation-middle front x rest)))
-  where
-    others : (z : ℕ) → IsIn z xs → (front rest : List ℕ) → IsIn z front ⊎ ((z ≡ x) ⊎ IsIn z rest) → IsIn z (front ++ rest)
-    others z i front rest (inl j) = in_left z front rest j
-    others z i front rest (inr (inl same)) = absurd (let apart : nat_eq x z ≡ false = all_at (λ y. nat_eq x y ≡ false) xs z d.0 i in grind (arith, nat_tests))
-    others z i front rest (inr (inr j)) = in_right z front rest j
-
-pub rearrangement_if_all : (ends : List ℕ) → ((k : ℕ) → k < length ends → IsIn (k + 1) ends) → IsRearrangement (length ends) ends
+pub rearrangement_if_all : (ends : List ℕ) → ((k : ℕ) → k < length ends → Contains ends (k + 1)) → IsRearrangement (length ends) ends
 rearrangement_if_all ends h =
     rearranged_if_all (up_to (length ends)) ends (up_to_distinct (length ends))
     (λ x i.
     let letter : IsLetterOf (length ends) x = from_up_to (length ends) x i in
     let back : x - 1 + 1 ≡ x = omega (arith, letter.0) in
-    subst (λ y. IsIn y ends) back (h (x - 1) (omega (arith, letter.0, letter.1))))
+    subst (λ y. Contains ends y) back (h (x - 1) (omega (arith, letter.0, letter.1))))
     (sym (up_to_length (length ends)))
 
-pub all_if_rearrangement : (ends : List ℕ) → IsRearrangement (length ends) ends → (k : ℕ) → k < length ends → IsIn (k + 1) ends
+pub all_if_rearrangement : (ends : List ℕ) → IsRearrangement (length ends) ends → (k : ℕ) → k < length ends → Contains ends (k + 1)
 all_if_rearrangement ends r k less =
-    in_from_contains ends (k + 1)
-    (Contains-permutation (up_to (length ends)) ends (k + 1) r (contains_from_in (up_to (length ends)) (k + 1) (in_up_to (length ends) (k + 1) (omega arith, omega arith))))
+    Contains-permutation (up_to (length ends)) ends (k + 1) r (in_up_to (length ends) (k + 1) (omega arith, omega arith))
 
 -- ---- the loop of the test
 
-pub more_found : (ends : List ℕ) (i place : ℕ) → place ≡ i + 1 → ((k : ℕ) → k < i → IsIn (k + 1) ends) → list_any (λ y. nat_eq y place) ends ≡ true → (k : ℕ) → k < i + 1 → IsIn (k + 1) ends
+pub more_found : (ends : List ℕ) (i place : ℕ) → place ≡ i + 1 → ((k : ℕ) → k < i → Contains ends (k + 1)) → list_any (λ y. nat_eq y place) ends ≡ true → (k : ℕ) → k < i + 1 → Contains ends (k + 1)
 more_found ends i place at h found k less =
     elim (cases_lt k i) [
       | inl before ↦ h k before
       | inr last ↦
           let (y, here, test) = some_of (λ y. nat_eq y place) ends found in
-          subst (λ z. IsIn z ends) (let same : y ≡ place = (Decides-eqb y place).0 test in let now : k ≡ i = omega arith in same ∙ at ∙ ap (λ j. j + 1) (sym now)) here
+          subst (λ z. Contains ends z) (let same : y ≡ place = (Decides-eqb y place).0 test in let now : k ≡ i = omega arith in same ∙ at ∙ ap (λ j. j + 1) (sym now)) here
     ]
 
 pub none_found : (ends : List ℕ) (i place : ℕ) → i < length ends → place ≡ i + 1 → list_any (λ y. nat_eq y place) ends ≡ false → IsRearrangement (length ends) ends → ⊥
 none_found ends i place less at none r =
-    let c : true ≡ false = sym (any_of (λ y. nat_eq y place) place ends (subst (λ z. IsIn z ends) (sym at) (all_if_rearrangement ends r i less)) ((Decides-eqb place place).1 refl)) ∙ none in cc
+    let c : true ≡ false = sym (any_of (λ y. nat_eq y place) place ends (subst (λ z. Contains ends z) (sym at) (all_if_rearrangement ends r i less)) ((Decides-eqb place place).1 refl)) ∙ none in cc
 
 -- ---- descents
 
@@ -140,9 +119,9 @@ set_twice zero d (a ∷ b ∷ xs) h = refl
 set_twice (suc j) d [] h = absurd (omega arith)
 set_twice (suc j) d (a ∷ xs) h = ap (λ r. a ∷ r) (set_twice j d xs (omega arith))
 
-swapped : (j : ℕ) (xs : List ℕ) → suc j < length xs → swap xs j (suc j) ≡ exchanged (suc j) xs
-swapped j [] h = absurd (omega arith)
-swapped j (a ∷ xs) h = set_twice j a (a ∷ xs) h
+swap_is_exchange : (j : ℕ) (xs : List ℕ) → suc j < length xs → swap xs j (suc j) ≡ exchanged (suc j) xs
+swap_is_exchange j [] h = absurd (omega arith)
+swap_is_exchange j (a ∷ xs) h = set_twice j a (a ∷ xs) h
 
 exchanged_prefix : (j n : ℕ) (xs : List ℕ) → suc j < n → n ≤ length xs → take n (exchanged (suc j) xs) ≡ exchanged (suc j) (take n xs)
 exchanged_prefix j zero xs h l = absurd (omega arith)
@@ -163,14 +142,14 @@ exchanged_rest (suc j) (suc n) [] h = refl
 exchanged_rest (suc j) (suc n) (a ∷ xs) h = exchanged_rest j n xs (omega arith)
 
 -- the array after an exchange
-pub exchanged_array : (n i : ℕ) (xs ys : List ℕ) → IsInline place_limit IsPerm n xs → IsDescentAt i (take n xs) → ys ≡ swap xs (i - 1) i → (take n ys ≡ exchanged i (take n xs)) × IsInline place_limit IsPerm n ys
+pub exchanged_array : (n i : ℕ) (xs ys : List ℕ) → IsInline PLACE_LIMIT IsPerm n xs → IsDescentAt i (take n xs) → ys ≡ swap xs (i - 1) i → (take n ys ≡ exchanged i (take n xs)) × IsInline PLACE_LIMIT IsPerm n ys
 exchanged_array n zero xs ys h d e = absurd d
 exchanged_array n (suc j) xs ys h d e =
     let back : suc j - 1 ≡ j = omega arith in
-    let size : length (take n xs) ≡ n = length_kept place_limit IsPerm n xs h in
+    let size : length (take n xs) ≡ n = length_kept PLACE_LIMIT IsPerm n xs h in
     let within : suc j < n = let w : (1 ≤ suc j) × (suc j < length (take n xs)) = descent_within (suc j) (take n xs) d in omega (arith, w.1) in
     let room : n ≤ length xs = omega (arith, h.short, h.whole) in
-    let shape : ys ≡ exchanged (suc j) xs = e ∙ ap (λ i. swap xs i (suc j)) back ∙ swapped j xs (omega arith) in
+    let shape : ys ≡ exchanged (suc j) xs = e ∙ ap (λ i. swap xs i (suc j)) back ∙ swap_is_exchange j xs (omega arith) in
     let front : take n ys ≡ exchanged (suc j) (take n xs) = ap (take n) shape ∙ exchanged_prefix j n xs within room in
     let long : length (exchanged (suc j) (take n xs)) ≡ length (take n xs) = exchanged_length (suc j) (take n xs) in (
       front,
@@ -179,7 +158,7 @@ exchanged_array n (suc j) xs ys h d e =
         whole = ap length shape ∙ exchanged_length (suc j) xs ∙ h.whole;
         padded = ap (drop n) shape ∙ exchanged_rest j n xs within ∙ h.padded;
         holds = subst IsPerm (sym front) (record {
-          short = subst (λ l. l ≤ place_limit) (sym long) h.holds.short;
+          short = subst (λ l. l ≤ PLACE_LIMIT) (sym long) h.holds.short;
           rearrangement = subst (λ l. IsRearrangement l (exchanged (suc j) (take n xs))) (sym long) (IsPermutation-trans (up_to (length (take n xs))) (take n xs) (exchanged (suc j) (take n xs)) h.holds.rearrangement (exchanged_is_permutation (suc j) (take n xs) d));
         });
       },

@@ -1,11 +1,13 @@
 -- The image under the quantum symmetrizer, put together letter by letter.
-use Rattle.std.proofs.Common.{◌≡◌, ℕ, suc, ◌+◌, ◌-◌, ◌<◌, ◌≤◌, List, [], ◌∷◌, ◌++◌, length, refl, sym, ◌∙◌, ap, ap₂, subst, arith, add-one}
+use Rattle.std.proofs.Common.{◌≡◌, ℕ, suc, ◌+◌, ◌-◌, ◌<◌, ◌≤◌, List, [], ◌∷◌, ◌++◌, length, sym, ◌∙◌, ap, ap₂, subst, arith, add-one}
 use Rattle.std.specs.List.{AllByRecursion}
+use Rattle.std.proofs.lemmas.List.{append-nil}
 use Rattle.nichols_field.specs.Field.{FieldValue, IsField, IsElement, plus}
 use Rattle.nichols_field.proofs.FieldLaws.{plus_zero, plus_assoc}
-use Rattle.nichols_tensor.specs.Members.{IsIn}
+use Rattle.nichols_tensor.specs.declared.TheConstants.{WORD_LIMIT}
 use Rattle.nichols_tensor.specs.Combination.{Combination, HasSameValues, value_at, AllElements, IsZero}
 use Rattle.nichols_tensor.specs.Words.{IsOver, HasDegree, up_to}
+use Rattle.nichols_tensor.proofs.Entries.{contains_none}
 use Rattle.nichols_tensor.proofs.Values.{value_is_element, value_at-append}
 use Rattle.nichols_tensor.proofs.Building.{elements-append}
 use Rattle.nichols_tensor.proofs.Linear.{same_images, extended_is_zero}
@@ -14,8 +16,8 @@ use Rattle.nichols_braid.specs.Symmetrizer.{lifts, symmetrized}
 use Rattle.nichols_braid.specs.Derivation.{derived}
 use Rattle.nichols_braid.specs.RightProduct.{times_letter}
 use Rattle.nichols_braid.proofs.Maps.{times_letter_same, times_letter_is_zero}
-use Rattle.nichols_words.specs.Word.{word_limit}
-use Rattle.nichols_lift.specs.Lengths.{AllAtMost, symmetrizer_limit}
+use Rattle.nichols_lift.specs.declared.TheConstants.{PLACE_LIMIT}
+use Rattle.nichols_lift.specs.Lengths.{AllAtMost}
 use Rattle.nichols_lift.proofs.Totals.{total, total_zero, total-append, alone}
 use Rattle.nichols_lift.proofs.Kernel.{symmetrized_0}
 use Rattle.nichols_lift.proofs.Parts.{constant, letter_part, image_is}
@@ -26,8 +28,7 @@ pub record IsSummed (braid : BraidValue) (f : Combination) (n : ℕ) (out : Comb
   pub elements : AllElements braid.field out
 
 no_letters : (k : FieldValue) → IsField k → (φ : ℕ → ℕ) → total k φ [] ≡ 0
-unfolding IsIn
-no_letters k is φ = total_zero k is φ [] (λ j i. absurd i)
+no_letters k is φ = total_zero k is φ [] (λ j i. absurd (contains_none j i))
 
 pub summed_start : (braid : BraidValue) → IsField braid.field → (f : Combination) (c : ℕ) → value_at braid.field f [] ≡ c → IsSummed braid f 0 (constant c)
 summed_start braid is f c e = record {
@@ -73,10 +74,6 @@ summed-part braid is f n letter m out derivative part next h at count derivative
     (subst (IsSummed braid f (suc n)) (sym (next_is ∙ ap (λ a. out ++ times_letter part a) (at ∙ add-one n)))
     (summed_more braid is f n out (times_letter part (suc n)) h (elements-times_letter k part (suc n) elements) (times_letter_same k is part (symmetrized braid (derived braid (suc n) f)) (suc n) same)))
 
-append_nothing : (f : Combination) → f ≡ f ++ []
-append_nothing [] = refl
-append_nothing (t ∷ f) = ap (λ r. t ∷ r) (append_nothing f)
-
 -- a letter whose derivative is zero
 pub summed-skip : (braid : BraidValue) → IsField braid.field → (f : Combination) (n letter m : ℕ) (out derivative : Combination) → IsSummed braid f n out → letter ≡ n + 1 → m ≡ n + 1 →
     HasSameValues braid.field derivative (derived braid letter f) → derivative ≡ [] → IsSummed braid f m out
@@ -85,7 +82,7 @@ summed-skip braid is f n letter m out derivative h at count derivative_is none =
     let gone : IsZero k (derived braid (suc n) f) = λ v. ap (λ a. value_at k (derived braid a f) v) (sym (at ∙ add-one n)) ∙ sym (derivative_is v) ∙ ap (λ g. value_at k g v) none in
     let zero_part : IsZero k (letter_part braid f (suc n)) = times_letter_is_zero k is (symmetrized braid (derived braid (suc n) f)) (suc n) (extended_is_zero k is (lifts braid) (derived braid (suc n) f) gone) in
     subst (λ i. IsSummed braid f i out) (sym (count ∙ add-one n))
-    (subst (IsSummed braid f (suc n)) (sym (append_nothing out)) (summed_more braid is f n out [] h tt (λ v. sym (zero_part v))))
+    (subst (IsSummed braid f (suc n)) (append-nil out) (summed_more braid is f n out [] h tt (λ v. sym (zero_part v))))
 
 pub summed_all : (braid : BraidValue) → IsBraid braid → (f : Combination) → IsOver braid.letters f → (n : ℕ) (out r : Combination) → n ≡ braid.letters → IsSummed braid f n out → HasSameValues braid.field r out → HasSameValues braid.field r (symmetrized braid f)
 summed_all braid is f over n out r count h same v =
@@ -99,6 +96,6 @@ image_of_constants braid is f r limit none short same v = ap (λ g. value_at bra
     each [] h = tt
     each (t ∷ g) h = (let few : length t.word ≤ limit = h.0 in omega arith, each g h.1)
 
-pub with_room : (f : Combination) (limit : ℕ) → limit ≤ symmetrizer_limit → AllAtMost (limit - 1) f → AllByRecursion (λ t. length t.word < word_limit) f
+pub with_room : (f : Combination) (limit : ℕ) → limit ≤ PLACE_LIMIT → AllAtMost (limit - 1) f → AllByRecursion (λ t. length t.word < WORD_LIMIT) f
 with_room [] limit few h = tt
 with_room (t ∷ f) limit few h = (let short : length t.word ≤ limit - 1 = h.0 in omega arith, with_room f limit few h.1)

@@ -80,15 +80,15 @@ below_all n x ps h = (omega arith, below_more n ps h)
 not_right : (e n : ℕ) → n ≤ e → nat_lt e n ≡ false
 not_right e n h = grind (arith, nat_tests)
 
-unacted : (braid : BraidValue) (n : ℕ) (ps : List Placed) → AllBelow n ps → (x : ℕ) → acted braid ps (suc n) x ≡ x
+acted_by_none : (braid : BraidValue) (n : ℕ) (ps : List Placed) → AllBelow n ps → (x : ℕ) → acted braid ps (suc n) x ≡ x
 unfolding AllBelow
-unacted braid n [] h x = refl
-unacted braid n (p ∷ ps) h x = cond-false (nat_lt (suc n) p.place) _ _ (not_right (suc n) p.place (omega (arith, h.0))) ∙ unacted braid n ps h.1 x
+acted_by_none braid n [] h x = refl
+acted_by_none braid n (p ∷ ps) h x = cond-false (nat_lt (suc n) p.place) _ _ (not_right (suc n) p.place (omega (arith, h.0))) ∙ acted_by_none braid n ps h.1 x
 
-unmet : (braid : BraidValue) (n : ℕ) (ps : List Placed) → AllBelow n ps → (x : ℕ) → acted_scalar braid ps (suc n) x ≡ 1
+none_met : (braid : BraidValue) (n : ℕ) (ps : List Placed) → AllBelow n ps → (x : ℕ) → acted_scalar braid ps (suc n) x ≡ 1
 unfolding AllBelow
-unmet braid n [] h x = refl
-unmet braid n (p ∷ ps) h x = cond-false (nat_lt (suc n) p.place) _ _ (not_right (suc n) p.place (omega (arith, h.0))) ∙ unmet braid n ps h.1 x
+none_met braid n [] h x = refl
+none_met braid n (p ∷ ps) h x = cond-false (nat_lt (suc n) p.place) _ _ (not_right (suc n) p.place (omega (arith, h.0))) ∙ none_met braid n ps h.1 x
 
 -- each letter at its own place
 own : ℕ → List ℕ → List Placed
@@ -98,18 +98,18 @@ own n (x ∷ w) = placed n x ∷ own (suc n) w
 ended_sorted : (braid : BraidValue) (n : ℕ) (ps : List Placed) → AllBelow n ps → (w : List ℕ) → ended braid ps (consecutive (suc n) (length w)) w ≡ own (suc n) w
 unfolding own
 ended_sorted braid n ps h [] = refl
-ended_sorted braid n ps h (x ∷ w) = ap₂ (λ y r. placed (suc n) y ∷ r) (unacted braid n ps h x) (ended_sorted braid (suc n) (placed (suc n) x ∷ ps) (below_all n x ps h) w)
+ended_sorted braid n ps h (x ∷ w) = ap₂ (λ y r. placed (suc n) y ∷ r) (acted_by_none braid n ps h x) (ended_sorted braid (suc n) (placed (suc n) x ∷ ps) (below_all n x ps h) w)
 
 ended_scalar_sorted : (braid : BraidValue) → IsField braid.field → (n : ℕ) (ps : List Placed) → AllBelow n ps → (w : List ℕ) → ended_scalar braid ps (consecutive (suc n) (length w)) w ≡ 1
 ended_scalar_sorted braid is n ps h [] = refl
 ended_scalar_sorted braid is n ps h (x ∷ w) =
-    ap₂ (times braid.field) (unmet braid n ps h x) (ended_scalar_sorted braid is (suc n) (placed (suc n) x ∷ ps) (below_all n x ps h) w)
+    ap₂ (times braid.field) (none_met braid n ps h x) (ended_scalar_sorted braid is (suc n) (placed (suc n) x ∷ ps) (below_all n x ps h) w)
     ∙ one_times braid.field 1 (one_is_element braid.field is)
 
 own_letters : (n : ℕ) (w : List ℕ) → map (letter_at (own n w)) (consecutive n (length w)) ≡ w
 unfolding own
 own_letters n [] = refl
-own_letters n (x ∷ w) = ap₂ (λ y r. y ∷ r) (first n) (skipped (suc n) (length w) (omega arith) ∙ own_letters (suc n) w)
+own_letters n (x ∷ w) = ap₂ (λ y r. y ∷ r) (first n) (first_is_skipped (suc n) (length w) (omega arith) ∙ own_letters (suc n) w)
   where
     first : (n : ℕ) → cond (nat_eq n n) x (letter_at (own (suc n) w) n) ≡ x
     first n = at (nat_eq n n) (grind (arith, nat_tests))
@@ -118,9 +118,9 @@ own_letters n (x ∷ w) = ap₂ (λ y r. y ∷ r) (first n) (skipped (suc n) (le
         at true h = refl
         at false h = cc
 
-    skipped : (i k : ℕ) → n < i → map (letter_at (placed n x ∷ own (suc n) w)) (consecutive i k) ≡ map (letter_at (own (suc n) w)) (consecutive i k)
-    skipped i zero h = refl
-    skipped i (suc k) h = ap₂ (λ y r. y ∷ r) (cond-false (nat_eq n i) x (letter_at (own (suc n) w) i) (grind (arith, nat_tests))) (skipped (suc i) k (omega arith))
+    first_is_skipped : (i k : ℕ) → n < i → map (letter_at (placed n x ∷ own (suc n) w)) (consecutive i k) ≡ map (letter_at (own (suc n) w)) (consecutive i k)
+    first_is_skipped i zero h = refl
+    first_is_skipped i (suc k) h = ap₂ (λ y r. y ∷ r) (cond-false (nat_eq n i) x (letter_at (own (suc n) w) i) (grind (arith, nat_tests))) (first_is_skipped (suc i) k (omega arith))
 
 none_below : (n : ℕ) → AllBelow n []
 unfolding AllBelow

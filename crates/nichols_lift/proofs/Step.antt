@@ -32,14 +32,6 @@ cross_length braid (suc zero) (a ∷ b ∷ w) = refl
 cross_length braid (suc (suc i)) [] = refl
 cross_length braid (suc (suc i)) (a ∷ w) = ap suc (cross_length braid (suc i) w)
 
-pub cross_over : (braid : BraidValue) → IsRack braid → (i : ℕ) (w : List ℕ) → IsWordOver braid.letters w → IsWordOver braid.letters (cross braid i w)
-cross_over braid rack zero w over = over
-cross_over braid rack (suc zero) [] over = over
-cross_over braid rack (suc zero) (a ∷ []) over = over
-cross_over braid rack (suc zero) (a ∷ b ∷ w) over = (rack.closed a b over.0 over.1.0, (over.0, over.1.1))
-cross_over braid rack (suc (suc i)) [] over = over
-cross_over braid rack (suc (suc i)) (a ∷ w) over = (over.0, cross_over braid rack (suc i) w over.1)
-
 pub exchanged_is_permutation : (i : ℕ) (ends : List ℕ) → IsDescentAt i ends → IsPermutation ends (exchanged i ends)
 exchanged_is_permutation zero ends h = absurd h
 exchanged_is_permutation (suc zero) [] h = absurd h

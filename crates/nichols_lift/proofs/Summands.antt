@@ -1,15 +1,15 @@
 -- The lifts of a word, in the order of the list of permutations: for each place in turn, the letter there is carried to the end,
 -- and the letters before it are lifted by each permutation of the places before.
 use Rattle.std.proofs.Common.{◌≡◌, ℕ, suc, ◌+◌, ◌-◌, ◌<◌, ◌≤◌, List, [], ◌∷◌, ◌++◌, map, length, take, drop, refl, sym, ◌∙◌, ap, ap₂, subst, arith, append_assoc}
-use Rattle.std.specs.List.{All, flat_map, insert}
+use Rattle.std.specs.List.{All, Contains, flat_map, insert}
 use Rattle.std.proofs.lemmas.List.{length-map, length-append, length-drop, length-take-le, take-append-drop, map-append}
 use Rattle.std.proofs.lemmas.List.Elements.{All-weaker}
 use Rattle.nichols_field.specs.Field.{IsElement, times}
 use Rattle.nichols_field.proofs.FieldLaws.{times_one, times_is_element, one_is_element}
 use Rattle.nichols_field.proofs.FieldAlgebra.{one_times}
-use Rattle.nichols_tensor.specs.Members.{IsIn}
 use Rattle.nichols_tensor.specs.Combination.{Term, Combination, scaled}
 use Rattle.nichols_tensor.specs.Words.{up_to, IsWordOver}
+use Rattle.nichols_tensor.proofs.Entries.{contains_first, contains_later}
 use Rattle.nichols_tensor.proofs.Pushed.{pushed_length}
 use Rattle.nichols_braid.specs.Braid.{BraidValue, IsBraid, act}
 use Rattle.nichols_braid.specs.Crossing.{crossed}
@@ -18,12 +18,12 @@ use Rattle.nichols_braid.specs.Symmetrizer.{permutations, lifts}
 use Rattle.nichols_braid.specs.Derivation.{scalars_met}
 use Rattle.nichols_braid.specs.Rearrangement.{IsRearrangement}
 use Rattle.nichols_braid.specs.RightProduct.{times_letter}
-use Rattle.nichols_braid.proofs.Lists.{first_is_in, later_is_in, map-map}
+use Rattle.nichols_braid.proofs.Lists.{map-map}
 use Rattle.nichols_braid.proofs.Rearranged.{consecutive, up_to_is_consecutive, rearranged_length, rearranged_bounds}
 use Rattle.nichols_braid.proofs.Permutations.{inserted_is_rearrangement, listed_is_rearrangement, insert_between}
 use Rattle.nichols_lift.proofs.Bubble.{bubble_descends}
 use Rattle.nichols_lift.proofs.Reduced.{term, reduced_list, lift_is_closed}
-use Rattle.nichols_lift.proofs.Chain.{carried, descending_inserted, behind, multiple, crossed_within, crossed-append, crossed_multiple}
+use Rattle.nichols_lift.proofs.Chain.{carried_to_end, descending_inserted, behind, multiple, crossed_within, crossed-append, crossed_multiple}
 
 -- ---- one permutation
 
@@ -51,7 +51,7 @@ lift_parts braid is m left right front a u arranged same_left same_right over =
     crossed_is_lift braid is (suc m) (chain ++ bubble ends) (left ++ suc m ∷ right) (front ++ a ∷ u) whole count over (descending_inserted (suc m) left right (bubble ends) less (bubble_descends ends))
     ∙ crossed-append braid chain (bubble ends) (term (front ++ a ∷ u) 1)
     ∙ ap₂ (λ i n. crossed braid (bubble ends) (crossed braid (consecutive (suc i) n) (term (front ++ a ∷ u) 1))) same_left same_right
-    ∙ ap (crossed braid (bubble ends)) (carried braid is.field front a u 1 (one_is_element braid.field is.field)
+    ∙ ap (crossed braid (bubble ends)) (carried_to_end braid is.field front a u 1 (one_is_element braid.field is.field)
     ∙ ap₂ term (sym (append_assoc front (map (act braid a) u) (a ∷ []))) (one_times braid.field s (met_is_element braid is a u) ∙ sym (times_one braid.field s (met_is_element braid is a u))))
     ∙ crossed_within braid a (bubble ends) ends v (times braid.field s 1) (bubble_descends ends) (length-append front (map (act braid a) u) ∙ ap (λ n. length front + n) (length-map u (act braid a)) ∙ sym (ap₂ (λ i n. i + n) same_left same_right) ∙ sym (length-append left right))
     ∙ ap (behind a) (crossed_multiple braid (bubble ends) v s 1)
@@ -94,10 +94,10 @@ block_is_lifted braid is m front a u size over =
     ∙ ap (λ n. times_letter (scaled braid.field (scalars_met braid a u) (map (λ ends. lift braid ends (front ++ map (act braid a) u)) (permutations n))) a)
     (sym size ∙ sym (ap (λ n. length front + n) (length-map u (act braid a))) ∙ sym (length-append front (map (act braid a) u)))
   where
-    each : (all : List (List ℕ)) → ((ends : List ℕ) → IsIn ends all → IsRearrangement m ends) →
+    each : (all : List (List ℕ)) → ((ends : List ℕ) → Contains all ends → IsRearrangement m ends) →
         map (λ ends. lift braid (insert ends (length front) (suc m)) (front ++ a ∷ u)) all ≡ times_letter (scaled braid.field (scalars_met braid a u) (map (λ ends. lift braid ends (front ++ map (act braid a) u)) all)) a
     each [] h = refl
-    each (ends ∷ all) h = ap₂ (λ t r. t ∷ r) (lift_inserted braid is m ends front a u (h ends (first_is_in ends all)) size over) (each all (λ es i. h es (later_is_in es ends all i)))
+    each (ends ∷ all) h = ap₂ (λ t r. t ∷ r) (lift_inserted braid is m ends front a u (h ends (contains_first ends all)) size over) (each all (λ es i. h es (contains_later ends all es i)))
 
 blocks_are_summands : (braid : BraidValue) → IsBraid braid → (m : ℕ) (front u w : List ℕ) → front ++ u ≡ w → length w ≡ suc m → IsWordOver braid.letters w →
     flat_map (block braid m w) (consecutive (suc (length front)) (length u)) ≡ flat_map (lifted braid) (summands braid front u)

@@ -1,14 +1,14 @@
 -- Sums over the letters.
-use Rattle.std.proofs.Common.{◌≡◌, ℕ, zero, suc, ◌<◌, Bool, true, false, cond, List, [], ◌∷◌, ◌++◌, refl, sym, ◌∙◌, ap, ap₂, arith, nat_eq, inl, inr}
-use Rattle.std.specs.List.{flat_map}
+use Rattle.std.proofs.Common.{◌≡◌, ℕ, zero, suc, ◌<◌, true, false, cond, List, [], ◌∷◌, ◌++◌, refl, sym, ◌∙◌, ap, ap₂, arith, nat_eq, inl, inr}
+use Rattle.std.specs.List.{flat_map, Contains}
 use Rattle.std.proofs.lemmas.Bool.{cases_lt}
 use Rattle.std.proofs.lemmas.Bool.Decides.{nat_tests}
 use Rattle.nichols_field.specs.Field.{FieldValue, IsField, IsElement, plus}
 use Rattle.nichols_field.proofs.FieldLaws.{plus_assoc, plus_zero, zero_is_element, plus_is_element}
 use Rattle.nichols_field.proofs.FieldAlgebra.{zero_plus, swap_middle}
-use Rattle.nichols_tensor.specs.Members.{IsIn}
 use Rattle.nichols_tensor.specs.Combination.{Combination, value_at}
 use Rattle.nichols_tensor.specs.Words.{up_to, IsLetterOf}
+use Rattle.nichols_tensor.proofs.Entries.{contains_first, contains_later}
 use Rattle.nichols_tensor.proofs.Values.{value_at-append}
 
 -- the sum of the numbers at these indices
@@ -21,20 +21,20 @@ unfolding total
 total_is_element k is φ [] = zero_is_element k is
 total_is_element k is φ (j ∷ js) = plus_is_element k (φ j) (total k φ js) is
 
-pub total_same : (k : FieldValue) (φ ψ : ℕ → ℕ) (js : List ℕ) → ((j : ℕ) → IsIn j js → φ j ≡ ψ j) → total k φ js ≡ total k ψ js
-unfolding total IsIn
+pub total_same : (k : FieldValue) (φ ψ : ℕ → ℕ) (js : List ℕ) → ((j : ℕ) → Contains js j → φ j ≡ ψ j) → total k φ js ≡ total k ψ js
+unfolding total
 total_same k φ ψ [] h = refl
-total_same k φ ψ (j ∷ js) h = ap₂ (plus k) (h j (inl refl)) (total_same k φ ψ js (λ i l. h i (inr l)))
+total_same k φ ψ (j ∷ js) h = ap₂ (plus k) (h j (contains_first j js)) (total_same k φ ψ js (λ i l. h i (contains_later j js i l)))
 
 pub total-plus : (k : FieldValue) → IsField k → (φ ψ : ℕ → ℕ) (js : List ℕ) → total k (λ j. plus k (φ j) (ψ j)) js ≡ plus k (total k φ js) (total k ψ js)
 unfolding total
 total-plus k is φ ψ [] = sym (plus_zero k 0 (zero_is_element k is))
 total-plus k is φ ψ (j ∷ js) = ap (plus k (plus k (φ j) (ψ j))) (total-plus k is φ ψ js) ∙ swap_middle k (φ j) (ψ j) (total k φ js) (total k ψ js)
 
-pub total_zero : (k : FieldValue) → IsField k → (φ : ℕ → ℕ) (js : List ℕ) → ((j : ℕ) → IsIn j js → φ j ≡ 0) → total k φ js ≡ 0
-unfolding total IsIn
+pub total_zero : (k : FieldValue) → IsField k → (φ : ℕ → ℕ) (js : List ℕ) → ((j : ℕ) → Contains js j → φ j ≡ 0) → total k φ js ≡ 0
+unfolding total
 total_zero k is φ [] h = refl
-total_zero k is φ (j ∷ js) h = ap₂ (plus k) (h j (inl refl)) (total_zero k is φ js (λ i l. h i (inr l))) ∙ plus_zero k 0 (zero_is_element k is)
+total_zero k is φ (j ∷ js) h = ap₂ (plus k) (h j (contains_first j js)) (total_zero k is φ js (λ i l. h i (contains_later j js i l))) ∙ plus_zero k 0 (zero_is_element k is)
 
 pub total-append : (k : FieldValue) → IsField k → (φ : ℕ → ℕ) (is js : List ℕ) → total k φ (is ++ js) ≡ plus k (total k φ is) (total k φ js)
 unfolding total
@@ -49,14 +49,12 @@ pub alone : (k : FieldValue) → (φ : ℕ → ℕ) (j : ℕ) → total k φ (j 
 unfolding total
 alone k φ j = refl
 
-cond_at : {X : Type 0} (t u : Bool) (x y : X) → t ≡ u → cond t x y ≡ cond u x y
-cond_at t u x y e = ap (λ b. cond b x y) e
-
 other_letters : (k : FieldValue) → IsField k → (n x g : ℕ) → n < x → total k (λ a. cond (nat_eq a x) g 0) (up_to n) ≡ 0
 other_letters k is zero x g h = empty k (λ a. cond (nat_eq a x) g 0)
 other_letters k is (suc n) x g h =
+    let apart : nat_eq (suc n) x ≡ false = grind (arith, nat_tests) in
     total-append k is (λ a. cond (nat_eq a x) g 0) (up_to n) (suc n ∷ [])
-    ∙ ap₂ (plus k) (other_letters k is n x g (omega arith)) (alone k (λ a. cond (nat_eq a x) g 0) (suc n) ∙ ap (λ m. plus k m 0) (cond_at (nat_eq (suc n) x) false g 0 (grind (arith, nat_tests))) ∙ plus_zero k 0 (zero_is_element k is))
+    ∙ ap₂ (plus k) (other_letters k is n x g (omega arith)) (alone k (λ a. cond (nat_eq a x) g 0) (suc n) ∙ ap (λ m. plus k m 0) (ap (λ b. cond b g 0) apart) ∙ plus_zero k 0 (zero_is_element k is))
     ∙ plus_zero k 0 (zero_is_element k is)
 
 -- one letter alone counts

@@ -1,5 +1,7 @@
 -- Worked rows over the three transpositions with 101 elements and scalar -1: closed forms of lifts.
 use Rattle.std.proofs.Common.{◌≡◌, ℕ, List, [], ◌∷◌, refl, arith}
+use Rattle.std.specs.Prelude.{pos}
+use Rattle.nichols_field.specs.Field.{prime_field}
 use Rattle.nichols_field.proofs.OnNumerals.{field_on_numerals}
 use Rattle.nichols_tensor.specs.Combination.{Term}
 use Rattle.nichols_braid.specs.Braid.{BraidValue, entry}
@@ -9,7 +11,7 @@ use Rattle.nichols_lift.specs.ClosedForm.{closed_form}
 
 abbrev three : BraidValue
 three = record {
-  field = 101;
+  field = prime_field (pos 101);
   letters = 3;
   rack = 1 ∷ 3 ∷ 2 ∷ 3 ∷ 2 ∷ 1 ∷ 2 ∷ 1 ∷ 3 ∷ [];
   cocycle = 100 ∷ 100 ∷ 100 ∷ 100 ∷ 100 ∷ 100 ∷ 100 ∷ 100 ∷ 100 ∷ [];

@@ -10,7 +10,10 @@ use Rattle.nichols_braid.specs.Symmetrizer.{symmetrized}
 use Rattle.nichols_braid.specs.Derivation.{derived}
 use Rattle.nichols_braid.specs.Kernel.{Vanishing, IsInKernel, IsKilled}
 use Rattle.nichols_braid.specs.Least.{is_least, basis, candidates}
+use Rattle.nichols_braid.specs.RightIdealTest.{IsRightIdealTest}
+use Rattle.nichols_braid.specs.LeftIdealTest.{IsLeftIdealTest}
 use Rattle.nichols_braid.specs.RightProduct.{times_letter}
+use Rattle.nichols_braid.specs.LeftProduct.{letter_times}
 use Rattle.nichols_braid.specs.Rearrangement.{IsRearrangement}
 use Rattle.nichols_lift.specs.ClosedForm.{closed_form}
 use Rattle.nichols_lift.specs.Reading.{IsReading, HasOneReading}
@@ -37,19 +40,38 @@ abbrev pub KernelByDerivations : Type 0
 KernelByDerivations =
     (braid : BraidValue) → IsBraid braid → (m : ℕ) (f : Combination) → HasDegree m f → IsOver braid.letters f → (IsInKernel braid f → IsKilled braid m f) × (IsKilled braid m f → IsInKernel braid f)
 
--- where f is in the kernel, so is `f x_b`, for each letter b
+-- where f of degree m over the letters is in the kernel, so is `f x_b`, for each letter b
 abbrev pub KernelIsRightIdeal : Type 0
 KernelIsRightIdeal =
     (braid : BraidValue) → IsBraid braid → (m : ℕ) (f : Combination) (b : ℕ) → HasDegree m f → IsOver braid.letters f → IsLetter braid b → IsInKernel braid f → IsInKernel braid (times_letter f b)
+
+-- where f of degree m over the letters is in the kernel, so is `x_b f`, for each letter b
+abbrev pub KernelIsLeftIdeal : Type 0
+KernelIsLeftIdeal =
+    (braid : BraidValue) → IsBraid braid → (m : ℕ) (f : Combination) (b : ℕ) → HasDegree m f → IsOver braid.letters f → IsLetter braid b → IsInKernel braid f → IsInKernel braid (letter_times b f)
 
 -- the symmetrizer and the skew derivations give the same least words, bases, normal forms, candidates and relations
 abbrev pub ReadingsAgree : Type 0
 ReadingsAgree = (braid : BraidValue) → IsBraid braid → HasOneReading braid
 
+-- in both readings what is zero in the algebra is, degree by degree, a linear subspace, kept by a letter from either side
+abbrev pub ReadingsAreIdeals : Type 0
+ReadingsAreIdeals =
+    (braid : BraidValue) → IsBraid braid → (vanishes : Vanishing) → IsReading vanishes → IsRightIdealTest braid (vanishes braid) × IsLeftIdealTest braid (vanishes braid)
+
+-- in both readings the empty word is least
+abbrev pub EmptyWordIsLeast : Type 0
+EmptyWordIsLeast = (braid : BraidValue) → IsBraid braid → (vanishes : Vanishing) → IsReading vanishes → is_least vanishes braid [] ≡ true
+
 -- each prefix of a least word is least
 abbrev pub PrefixesAreLeast : Type 0
 PrefixesAreLeast =
     (braid : BraidValue) → IsBraid braid → (vanishes : Vanishing) → IsReading vanishes → (u v : List ℕ) → IsWordOver braid.letters (u ++ v) → is_least vanishes braid (u ++ v) ≡ true → is_least vanishes braid u ≡ true
+
+-- each suffix of a least word is least
+abbrev pub SuffixesAreLeast : Type 0
+SuffixesAreLeast =
+    (braid : BraidValue) → IsBraid braid → (vanishes : Vanishing) → IsReading vanishes → (u v : List ℕ) → IsWordOver braid.letters (u ++ v) → is_least vanishes braid (u ++ v) ≡ true → is_least vanishes braid v ≡ true
 
 -- each least word of degree m is a candidate of degree m
 abbrev pub LeastWordsAreCandidates : Type 0

@@ -6,7 +6,3 @@ use Rattle.nichols_tensor.specs.Combination.{Combination}
 -- each word has at most this many letters
 abbrev pub AllAtMost : ℕ → Combination → Type 0
 AllAtMost limit f = AllByRecursion (λ t. length t.word ≤ limit) f
-
--- the most letters of a word whose image under the quantum symmetrizer is computed
-abbrev pub symmetrizer_limit : ℕ
-symmetrizer_limit = 7

@@ -2,7 +2,7 @@
 //!
 //! They hold for every braid and every length (Heckenberger and Schneider, "Hopf Algebras and Root Systems").
 
-ghost use Rattle.nichols_lift.specs.Laws.{LeastPlacesDescend, ReducedListsAgree, SymmetrizerFactors, KernelByDerivations, KernelIsRightIdeal, ReadingsAgree, PrefixesAreLeast, LeastWordsAreCandidates, EmptyDegreesStayEmpty};
+ghost use Rattle.nichols_lift.specs.Laws.{LeastPlacesDescend, ReducedListsAgree, SymmetrizerFactors, KernelByDerivations, KernelIsRightIdeal, KernelIsLeftIdeal, ReadingsAgree, ReadingsAreIdeals, EmptyWordIsLeast, PrefixesAreLeast, SuffixesAreLeast, LeastWordsAreCandidates, EmptyDegreesStayEmpty};
 
 /// The list of the lift is descending: exchanging the end places at the least place whose entry is greater than the next one,
 /// again and again, sorts them.
@@ -31,10 +31,16 @@ pub fn kernel_by_derivations()
     ensures { KernelByDerivations }
 {}
 
-/// Right ideal: where f is in the kernel, so is `f x_b`, for each letter b.
+/// Right ideal: where f of degree m over the letters is in the kernel, so is `f x_b`, for each letter b.
 #[tactic(auto, using(crate::proofs::LiftLaws::kernel_is_right_ideal))]
 pub fn kernel_is_right_ideal()
     ensures { KernelIsRightIdeal }
+{}
+
+/// Left ideal: where f of degree m over the letters is in the kernel, so is `x_b f`, for each letter b.
+#[tactic(auto, using(crate::proofs::LiftLaws::kernel_is_left_ideal))]
+pub fn kernel_is_left_ideal()
+    ensures { KernelIsLeftIdeal }
 {}
 
 /// The symmetrizer and the skew derivations give the same least words, bases, normal forms, candidates and relations.
@@ -42,10 +48,27 @@ pub fn readings_agree()
     ensures { ReadingsAgree }
 {}
 
+/// In both readings what is zero in the algebra is, degree by degree, a linear subspace, kept by a letter from either side.
+pub fn readings_are_ideals()
+    ensures { ReadingsAreIdeals }
+{}
+
+/// In both readings the empty word is least.
+#[tactic(auto, using(crate::proofs::LiftLaws::empty_word_is_least))]
+pub fn empty_word_is_least()
+    ensures { EmptyWordIsLeast }
+{}
+
 /// Each prefix of a least word is least.
 #[tactic(auto, using(crate::proofs::LiftLaws::prefixes_are_least))]
 pub fn prefixes_are_least()
     ensures { PrefixesAreLeast }
+{}
+
+/// Each suffix of a least word is least.
+#[tactic(auto, using(crate::proofs::LiftLaws::suffixes_are_least))]
+pub fn suffixes_are_least()
+    ensures { SuffixesAreLeast }
 {}
 
 /// Each least word is a candidate of its degree: a least word of the degree before with a letter behind.

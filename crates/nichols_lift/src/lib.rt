@@ -9,6 +9,9 @@ pub mod laws;
 mod lifting;
 mod perm;
 
+/// The most places of a permutation that is kept, and the most letters of a word whose image under the quantum symmetrizer is asked for.
+pub const PLACE_LIMIT: usize = 7;
+
 pub use crossing::cross_at;
 pub use image::symmetrize;
 pub use lifting::{lift, lift_by};

@@ -1,32 +1,32 @@
-//! Permutations of at most 7 places, kept inline.
+//! Permutations of few places, kept inline.
 
 ghost use Rattle.std.specs.Prelude.{◌≡◌, ◌≤◌, ◌↔◌, IsTrue, MatchOption, length};
 ghost use Rattle.nichols_braid.specs.Rearrangement.{IsRearrangement};
 ghost use Rattle.nichols_braid.specs.Lift.{IsDescentAt, exchanged, first_descent};
-ghost use Rattle.nichols_lift.specs.Perm.{IsPerm, place_limit};
+ghost use Rattle.nichols_lift.specs.declared.TheConstants.{PLACE_LIMIT};
+ghost use Rattle.nichols_lift.specs.Perm.{IsPerm};
 
+use crate::PLACE_LIMIT;
 use std::marker::Model;
 
-/// The most places of a permutation.
-const PLACES_MOST: usize = 7;
-
-/// A permutation of at most 7 places, by its end places: entry j says where the letter at place j ends.
+/// A permutation of at most [`PLACE_LIMIT`] places, by its end places: entry j says where the letter at place j ends.
 #[derive(Clone, Copy)]
 pub struct Perm {
     len: usize,
-    ends: [u8; PLACES_MOST],
+    ends: [u8; PLACE_LIMIT],
 }
 
 impl Model for Perm {
     ghost use Rattle.std.specs.Prelude.{ℕ, List, take};
     ghost use Rattle.nichols_tensor.specs.Inline.{IsInline};
-    ghost use Rattle.nichols_lift.specs.Perm.{IsPerm, place_limit};
+    ghost use Rattle.nichols_lift.specs.declared.TheConstants.{PLACE_LIMIT};
+    ghost use Rattle.nichols_lift.specs.Perm.{IsPerm};
 
     ghost Value = { List ℕ };
 
     ghost view = { λ p. take p.len p.ends };
 
-    ghost invariant = { λ p. IsInline place_limit IsPerm p.len p.ends };
+    ghost invariant = { λ p. IsInline PLACE_LIMIT IsPerm p.len p.ends };
 
     ghost use Rattle.nichols_lift.specs.PermFields.{fields_of, fields_back};
 
@@ -36,14 +36,14 @@ impl Model for Perm {
 }
 
 impl Perm {
-    /// The permutation with these end places. It is `None` where they are more than 7, or no rearrangement of 1 to their number.
+    /// The permutation with these end places. It is `None` where they are more than [`PLACE_LIMIT`], or no rearrangement of 1 to their number.
     pub fn new(ends: &[u8]) -> Option<Perm>
         ensures { MatchOption result (IsPerm ends.now → ⊥) (λ p. (p ≡ ends.now) × IsPerm ends.now) }
     {
-        if ends.len() > PLACES_MOST || !is_rearrangement(ends) {
+        if ends.len() > PLACE_LIMIT || !is_rearrangement(ends) {
             return None;
         }
-        let mut places = [0; PLACES_MOST];
+        let mut places = [0; PLACE_LIMIT];
         places[..ends.len()].copy_from_slice(ends);
         Some(Perm {
             len: ends.len(),
@@ -77,7 +77,7 @@ impl Perm {
 
 /// Whether the entries are a rearrangement of 1 to their number: each of these stands among them.
 fn is_rearrangement(ends: &[u8]) -> bool
-    requires { length ends.now ≤ place_limit }
+    requires { length ends.now ≤ PLACE_LIMIT }
     ensures { IsTrue result ↔ IsRearrangement (length ends.now) ends.now }
 {
     for i in 0..ends.len() {

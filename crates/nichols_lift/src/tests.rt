@@ -6,22 +6,36 @@ ghost use Rattle.nichols_lift.specs.Lengths.{AllAtMost};
 use super::*;
 use nichols_braid::{Braid, Scalars};
 use nichols_field::Field;
+use nichols_tensor::LETTER_LIMIT;
 use nichols_words::{Comb, Word};
 use std::alloc::{AllocError, Global};
 use std::test::Fail;
 
-/// The word with these letters, where each is a letter of the braid.
-fn word_over(braid: &Braid, letters: &[u8]) -> Option<Word>
+/// The word that a text spells, as "3.1.2", or "" for the empty word. What is no letter, or has no room, is left out.
+fn word(text: &str) -> Word {
+    let mut word = Word::empty();
+    for letter in text.split('.') {
+        if let Ok(letter) = letter.parse() {
+            if 1 <= letter && letter <= LETTER_LIMIT {
+                let _put = word.push(letter);
+            }
+        }
+    }
+    word
+}
+
+/// The word that a text spells, where each of its letters is one of the braid.
+fn word_over(braid: &Braid, text: &str) -> Option<Word>
     ensures { IfSome result (IsWordOver braid.now.letters) }
 {
     let _field = braid.field();
-    let mut word = Word::empty();
-    for &letter in letters {
-        if letter < 1 || letter > braid.letters() || !word.push(letter) {
+    let mut found = Word::empty();
+    for &letter in word(text).letters() {
+        if letter < 1 || letter > braid.letters() || !found.push(letter) {
             return None;
         }
     }
-    Some(word)
+    Some(found)
 }
 
 fn table(alloc: Global, entries: &[&[i64]]) -> Result<Vec<Vec<i64>>, AllocError> {
@@ -51,18 +65,17 @@ fn three_transpositions(alloc: Global) -> Result<Braid, Fail> {
 }
 
 /// Whether a combination has these terms, in this order.
-fn has_terms(comb: &Comb, expected: &[(&[u8], u32)]) -> bool {
+fn has_terms(comb: &Comb, expected: &[(&str, u32)]) -> bool {
     let terms = comb.terms();
     terms.len() == expected.len()
-        && terms.iter().zip(expected).all(|(term, (letters, coefficient))| {
-            term.word.letters() == *letters && term.coefficient == *coefficient
-        })
+        && terms.iter().zip(expected).all(|(term, (text, coefficient))| term.word == word(text)
+            && term.coefficient == *coefficient)
 }
 
 /// The image of a word of at most 7 letters.
-fn image(alloc: Global, braid: &Braid, letters: &[u8]) -> Result<Comb, Fail> {
+fn image(alloc: Global, braid: &Braid, text: &str) -> Result<Comb, Fail> {
     let field = braid.field();
-    let word = word_over(braid, letters).ok_or("no word")?;
+    let word = word_over(braid, text).ok_or("no word")?;
     let comb = Comb::single(alloc, field, word, field.from_i64(1))?;
     if word.len() > 7 {
         return Err("more than 7 letters".into());
@@ -74,13 +87,13 @@ fn image(alloc: Global, braid: &Braid, letters: &[u8]) -> Result<Comb, Fail> {
 #[test]
 fn images_over_the_three_transpositions(rt: HostRuntime) -> Result<(), Fail> {
     let three = three_transpositions(rt.alloc())?;
-    let rows: [(&[u8], &[(&[u8], u32)]); 3] = [
-        (&[], &[(&[], 1)]),
-        (&[2], &[(&[2], 1)]),
-        (&[1, 2], &[(&[1, 2], 1), (&[3, 1], 100)]),
+    let rows: [(&str, &[(&str, u32)]); 3] = [
+        ("", &[("", 1)]),
+        ("2", &[("2", 1)]),
+        ("1.2", &[("1.2", 1), ("3.1", 100)]),
     ];
-    for (word, expected) in rows {
-        let found = image(rt.alloc(), &three, word)?;
+    for (text, expected) in rows {
+        let found = image(rt.alloc(), &three, text)?;
         assert!(rt; has_terms(&found, expected));
     }
     let zero = symmetrize(rt.alloc(), &three, &Comb::zero(rt.alloc()))?;
@@ -89,7 +102,7 @@ fn images_over_the_three_transpositions(rt: HostRuntime) -> Result<(), Fail> {
 }
 
 /// A sum of words of at most 7 letters, and one word more.
-fn with_word(alloc: Global, braid: &Braid, sum: &Comb, letters: &[u8]) -> Result<Comb, Fail>
+fn with_word(alloc: Global, braid: &Braid, sum: &Comb, text: &str) -> Result<Comb, Fail>
     requires lengths { AllAtMost 7 sum.now }
     requires letters { IsOver braid.now.letters sum.now }
     requires elements { AllElements braid.now.field sum.now }
@@ -99,7 +112,7 @@ fn with_word(alloc: Global, braid: &Braid, sum: &Comb, letters: &[u8]) -> Result
 {
     let field = braid.field();
     let one = field.from_i64(1);
-    let word = word_over(braid, letters).ok_or("no word")?;
+    let word = word_over(braid, text).ok_or("no word")?;
     if word.len() > 7 {
         return Err("more than 7 letters".into());
     }
@@ -113,13 +126,13 @@ fn with_word(alloc: Global, braid: &Braid, sum: &Comb, letters: &[u8]) -> Result
 fn the_image_of_a_sum(rt: HostRuntime) -> Result<(), Fail> {
     let three = three_transpositions(rt.alloc())?;
     let none = Comb::zero(rt.alloc());
-    let empty = with_word(rt.alloc(), &three, &none, &[])?;
-    let first = with_word(rt.alloc(), &three, &empty, &[1, 2])?;
-    let second = with_word(rt.alloc(), &three, &first, &[2, 3])?;
-    let third = with_word(rt.alloc(), &three, &second, &[3, 1])?;
+    let empty = with_word(rt.alloc(), &three, &none, "")?;
+    let first = with_word(rt.alloc(), &three, &empty, "1.2")?;
+    let second = with_word(rt.alloc(), &three, &first, "2.3")?;
+    let third = with_word(rt.alloc(), &three, &second, "3.1")?;
     assert_eq!(rt; third.terms().len(), 4);
     let found = symmetrize(rt.alloc(), &three, &third)?;
-    assert!(rt; has_terms(&found, &[(&[], 1)]));
+    assert!(rt; has_terms(&found, &[("", 1)]));
     Ok(())
 }
 
@@ -128,10 +141,10 @@ fn the_image_of_a_sum(rt: HostRuntime) -> Result<(), Fail> {
 #[test]
 fn images_of_powers(rt: HostRuntime) -> Result<(), Fail> {
     let minus = braid(rt.alloc(), 7, &[&[1]], &[&[-1]])?;
-    assert!(rt; image(rt.alloc(), &minus, &[1, 1])?.is_zero());
+    assert!(rt; image(rt.alloc(), &minus, "1.1")?.is_zero());
     let two = braid(rt.alloc(), 7, &[&[1]], &[&[2]])?;
-    assert!(rt; has_terms(&image(rt.alloc(), &two, &[1, 1])?, &[(&[1, 1], 3)]));
-    assert!(rt; image(rt.alloc(), &two, &[1, 1, 1])?.is_zero());
+    assert!(rt; has_terms(&image(rt.alloc(), &two, "1.1")?, &[("1.1", 3)]));
+    assert!(rt; image(rt.alloc(), &two, "1.1.1")?.is_zero());
     Ok(())
 }
 
@@ -148,9 +161,9 @@ fn end_places(rt: HostRuntime) {
 }
 
 /// The lift of a word of as many letters as the permutation has places.
-fn lifted(braid: &Braid, ends: &[u8], letters: &[u8]) -> Option<(Word, u32)> {
+fn lifted(braid: &Braid, ends: &[u8], text: &str) -> Option<(Word, u32)> {
     let perm = Perm::new(ends)?;
-    let word = word_over(braid, letters)?;
+    let word = word_over(braid, text)?;
     if word.len() != perm.ends().len() {
         return None;
     }
@@ -160,14 +173,14 @@ fn lifted(braid: &Braid, ends: &[u8], letters: &[u8]) -> Option<(Word, u32)> {
 #[test]
 fn lifts_over_the_three_transpositions(rt: HostRuntime) -> Result<(), Fail> {
     let three = three_transpositions(rt.alloc())?;
-    let rows: [(&[u8], &[u8], u32); 3] = [
-        (&[3, 2, 1], &[1, 3, 1], 100),
-        (&[3, 1, 2], &[3, 2, 1], 1),
-        (&[1, 2, 3], &[1, 2, 3], 1),
+    let rows: [(&[u8], &str, u32); 3] = [
+        (&[3, 2, 1], "1.3.1", 100),
+        (&[3, 1, 2], "3.2.1", 1),
+        (&[1, 2, 3], "1.2.3", 1),
     ];
-    for (ends, word, scalar) in rows {
-        let (found, met) = lifted(&three, ends, &[1, 2, 3]).ok_or("no lift")?;
-        assert!(rt; found.letters() == word && met == scalar);
+    for (ends, text, scalar) in rows {
+        let (found, met) = lifted(&three, ends, "1.2.3").ok_or("no lift")?;
+        assert!(rt; found == word(text) && met == scalar);
     }
     Ok(())
 }
@@ -175,12 +188,12 @@ fn lifts_over_the_three_transpositions(rt: HostRuntime) -> Result<(), Fail> {
 #[test]
 fn a_crossing(rt: HostRuntime) -> Result<(), Fail> {
     let three = three_transpositions(rt.alloc())?;
-    let mut word = word_over(&three, &[1, 2, 3]).ok_or("no word")?;
-    if word.len() != 3 {
+    let mut crossed = word_over(&three, "1.2.3").ok_or("no word")?;
+    if crossed.len() != 3 {
         return Err("not three letters".into());
     }
-    let met = cross_at(&three, &mut word, 2);
-    assert!(rt; word.letters() == [1, 1, 2].as_slice() && met == 100);
+    let met = cross_at(&three, &mut crossed, 2);
+    assert!(rt; crossed == word("1.1.2") && met == 100);
     Ok(())
 }
 
@@ -188,16 +201,16 @@ fn a_crossing(rt: HostRuntime) -> Result<(), Fail> {
 #[test]
 fn both_lists_of_the_reversal(rt: HostRuntime) -> Result<(), Fail> {
     let three = three_transpositions(rt.alloc())?;
-    let word = word_over(&three, &[1, 2, 3]).ok_or("no word")?;
+    let start = word_over(&three, "1.2.3").ok_or("no word")?;
     let reversal = Perm::new(&[3, 2, 1]).ok_or("no permutation")?;
-    if word.len() != 3 {
+    if start.len() != 3 {
         return Err("not three letters".into());
     }
-    let (found, met) = lift(&three, &reversal, &word);
-    assert!(rt; found.letters() == [1, 3, 1].as_slice() && met == 100);
-    let first = lift_by(&three, &reversal, &[1, 2, 1], &word);
+    let (found, met) = lift(&three, &reversal, &start);
+    assert!(rt; found == word("1.3.1") && met == 100);
+    let first = lift_by(&three, &reversal, &[1, 2, 1], &start);
     assert!(rt; first.0 == found && first.1 == met);
-    let second = lift_by(&three, &reversal, &[2, 1, 2], &word);
+    let second = lift_by(&three, &reversal, &[2, 1, 2], &start);
     assert!(rt; second.0 == found && second.1 == met);
     Ok(())
 }
