@@ -1,6 +1,6 @@
 //! Rows that are made from a counter.
 
-ghost use Rattle.std.specs.Prelude.{◌<◌, ◌≤◌, ◌^◌, IfOk, IfSome, OnOk, length};
+ghost use Rattle.std.specs.Prelude.{◌<◌, ◌^◌, IfOk, IfSome, length};
 ghost use Rattle.nichols_echelon.specs.Cells.{AllElements};
 ghost use Rattle.nichols_echelon.specs.Combination.{AllRowsElements};
 

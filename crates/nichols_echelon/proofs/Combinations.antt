@@ -136,3 +136,12 @@ combined_from_entries k is rows n xs ys hx hy same column =
     (sym (combined-difference k is rows xs ys column)
     ∙ combined_of_zero k is rows n (difference k xs ys) (all_below-difference k n xs ys hx hy)
     (λ j. entry-difference k is xs ys j ∙ ap (λ v. plus k v (times k (negative k 1) (entry k ys j))) (same j) ∙ difference_of_same k (entry k ys j) is) column)
+
+-- a combination reads only the rows at its positions
+pub combined_alike : (k : FieldValue) (rows others : List (List Cell)) (n : ℕ) → ((j : ℕ) → j < n → row_at rows j ≡ row_at others j) → (cells : List Cell) → AllBelow n cells → (column : ℕ) →
+    combined k rows cells column ≡ combined k others cells column
+combined_alike k rows others n same [] below column = combined-nil k rows column ∙ sym (combined-nil k others column)
+combined_alike k rows others n same (c ∷ cells) below column =
+    combined-cons k rows c cells column
+    ∙ ap₂ (λ (row : List Cell) (m : ℕ). plus k (times k c.coefficient (entry k row column)) m) (same c.column below.0) (combined_alike k rows others n same cells below.1 column)
+    ∙ sym (combined-cons k others c cells column)

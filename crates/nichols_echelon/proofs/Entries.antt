@@ -1,11 +1,11 @@
 -- Entries of rows.
-use Rattle.std.proofs.Common.{◌≡◌, ◌<◌, ◌==◌, ℕ, Bool, true, false, cond, List, [], ◌∷◌, ◌++◌, refl, sym, ◌∙◌, ap, ap₂, subst, arith, inl, inr, reverse}
-use Rattle.std.proofs.lemmas.Grind.{reverse_onto}
+use Rattle.std.proofs.Common.{◌≡◌, ◌<◌, ◌≤◌, ◌==◌, ℕ, Bool, true, false, cond, List, [], ◌∷◌, ◌++◌, refl, sym, ◌∙◌, ap, ap₂, subst, arith, inl, inr, ◌+◌, length, get_or, take}
+use Rattle.std.proofs.lemmas.List.{take_more}
 use Rattle.std.proofs.lemmas.Bool.{cases_eq, eqb-true, eqb-false, eq-eqb, ne_eqb, cond-true, cond-false, cases_order}
 use Rattle.nichols_field.specs.Field.{FieldValue, IsField, IsElement, plus, times}
 use Rattle.nichols_field.proofs.FieldLaws.{plus_comm, plus_assoc, plus_zero, times_plus, times_zero, zero_is_element, plus_is_element}
 use Rattle.nichols_field.proofs.FieldAlgebra.{zero_plus, times_chosen}
-use Rattle.nichols_echelon.specs.Cells.{Cell, cell_value, entry, IsRow, IsRising, IsBelowFirst, AllElements, columns_of}
+use Rattle.nichols_echelon.specs.Cells.{Cell, cell_value, entry, IsRow, IsRising, IsBelowFirst, AllElements, AllBelow, columns_of}
 use Rattle.nichols_echelon.proofs.Shapes.{row_front}
 
 pub entry-nil : (k : FieldValue) (column : ℕ) → entry k [] column ≡ 0
@@ -39,12 +39,6 @@ unfolding entry
 entry-push k is [] c column = plus_comm k (cell_value c column) 0
 entry-push k is (x ∷ xs) c column =
     ap (plus k (cell_value x column)) (entry-push k is xs c column) ∙ sym (plus_assoc k (cell_value x column) (entry k xs column) (cell_value c column))
-
-pub entry-reverse : (k : FieldValue) → IsField k → (cells : List Cell) (column : ℕ) → entry k (reverse cells) column ≡ entry k cells column
-entry-reverse k is [] column = refl
-entry-reverse k is (c ∷ cells) column =
-    ap (λ xs. entry k xs column) (reverse_onto cells c []) ∙ entry-push k is (reverse cells) c column ∙ ap (λ v. plus k v (cell_value c column)) (entry-reverse k is cells column)
-    ∙ plus_comm k (entry k cells column) (cell_value c column) ∙ sym (entry-cons k c cells column)
 
 -- the cells with each coefficient multiplied
 unfoldable pub scaled : FieldValue → ℕ → List Cell → List Cell
@@ -138,3 +132,15 @@ row_from_entries k is (x ∷ xs) (y ∷ ys) hx hy ex ey e =
       | inr (inl less) ↦ absurd (hx.nonzero.0 (sym (entry_first k is x xs hx ex.0) ∙ e x.column ∙ entry_before k is x.column (y ∷ ys) less hy.rising))
       | inr (inr more) ↦ absurd (hy.nonzero.0 (sym (entry_first k is y ys hy ey.0) ∙ sym (e y.column) ∙ entry_before k is y.column (x ∷ xs) more hx.rising))
     ]
+
+-- one more cell in a sum of entries
+pub entry_more : (k : FieldValue) → IsField k → (cells : List Cell) (i : ℕ) (c : Cell) (column : ℕ) → i < length cells → c ≡ get_or cells i c →
+    entry k (take (i + 1) cells) column ≡ plus k (entry k (take i cells) column) (cell_value c column)
+entry_more k is cells i c column h e =
+    ap (λ (cs : List Cell). entry k cs column) (take_more cells i c h ∙ ap (λ (d : Cell). take i cells ++ d ∷ []) (sym e)) ∙ entry-push k is (take i cells) c column
+
+-- no entry stands from a bound of the columns on
+pub entry_beyond : (k : FieldValue) → IsField k → (n : ℕ) (cells : List Cell) (j : ℕ) → AllBelow n cells → n ≤ j → entry k cells j ≡ 0
+entry_beyond k is n [] j h above = entry-nil k j
+entry_beyond k is n (c ∷ cells) j h above =
+    entry-cons k c cells j ∙ ap₂ (plus k) (cell_elsewhere c j (λ e. let b : c.column < n = h.0 in absurd (omega arith))) (entry_beyond k is n cells j h.1 above) ∙ plus_zero k 0 (zero_is_element k is)

@@ -1,23 +1,21 @@
 -- Rows with numbered columns have the same entries, so the same rows depend on the rows before them.
-use Rattle.std.proofs.Common.{◌≡◌, ◌≢◌, ◌<◌, ◌≤◌, ◌+◌, ◌-◌, ◌^◌, ◌⊎◌, ℕ, zero, suc, List, [], ◌∷◌, ◌++◌, sym, ◌∙◌, ap, ap₂, subst, arith, inl, inr, length, get_or, take, drop, reverse, Fits, w32}
-use Rattle.std.specs.List.{AllByRecursion, Contains}
+use Rattle.std.proofs.Common.{◌≡◌, ◌≢◌, ◌<◌, ◌≤◌, ◌+◌, ◌-◌, ◌^◌, ◌⊎◌, ℕ, zero, suc, List, [], ◌∷◌, ◌++◌, sym, ◌∙◌, ap, ap₂, subst, arith, inl, inr, length, get_or, take, drop, Fits, w32}
+use Rattle.std.specs.List.{Contains}
 use Rattle.std.specs.List.Sorted.{IsStrictlyIncreasing}
 use Rattle.std.proofs.lemmas.List.{drop_more, drop_all, take_more}
 use Rattle.std.proofs.lemmas.List.Elements.{Contains-append_left, Contains-append_right, Contains-get_or}
 use Rattle.std.proofs.lemmas.Bool.{cases_eq, cases_lt, cases_order}
-use Rattle.std.proofs.lemmas.Grind.{reverse_onto}
 use Rattle.nichols_field.specs.Field.{FieldValue, IsField, IsElement, plus, times}
 use Rattle.nichols_field.proofs.FieldLaws.{plus_zero, times_zero, zero_is_element}
-use Rattle.nichols_echelon.specs.Cells.{Cell, cell_value, entry, IsRow, AllElements, AllBelow, columns_of}
-use Rattle.nichols_echelon.specs.Combination.{row_at, combined, IsCombination, AllRowsElements, AllRowsBelow}
+use Rattle.nichols_echelon.specs.Cells.{Cell, cell_value, entry, IsRow, IsBelowFirst, AllElements, AllBelow, columns_of}
+use Rattle.nichols_echelon.specs.Combination.{row_at, combined, IsCombination, AllRowsElements, AllRowsBelow, AreRows}
 use Rattle.nichols_echelon.specs.Split.{place_at, IsPlace, IsSplit}
-use Rattle.nichols_echelon.specs.Numbering.{all_columns, column_numbered, AllListed, IsNumbered, AreNumbered}
+use Rattle.nichols_echelon.specs.Numbering.{all_columns, AllListed, IsNumbered, AreNumbered}
 use Rattle.nichols_echelon.specs.declared.rows.Place.{Place}
 use Rattle.nichols_echelon.specs.declared.rows.Place.TheVariants.{Independent, Depends}
-use Rattle.nichols_echelon.proofs.Shapes.{row_nil, row_cons, row_front, columns_of-append, reverse-cons, all_reversed}
-use Rattle.nichols_echelon.proofs.Entries.{entry-nil, entry-cons, entry-reverse, cell_here, cell_elsewhere}
+use Rattle.nichols_echelon.proofs.Shapes.{row_nil, row_cons, row_front, columns_of-append, all_rows, row_of_all}
+use Rattle.nichols_echelon.proofs.Entries.{entry-nil, entry-cons, entry_beyond, cell_here, cell_elsewhere}
 use Rattle.nichols_echelon.proofs.Combinations.{combined-nil, combined-cons}
-use Rattle.nichols_echelon.proofs.Retracing.{entry_beyond}
 
 -- in a list that rises strictly an earlier number is less
 pub rises : (columns : List ℕ) → IsStrictlyIncreasing columns → (i j : ℕ) → i < j → j < length columns → get_or columns i 0 < get_or columns j 0
@@ -47,36 +45,28 @@ number_small columns h (suc i) inside =
     let m : i ≤ get_or columns i 0 = number_small columns h i (omega arith) in
     omega arith
 
--- the number of the column at a place in the list
-number_at : (columns : List ℕ) (i : ℕ) → i < length columns → column_numbered columns (length columns - 1 - i) ≡ get_or columns i 0
-number_at columns i inside = let same : length columns - 1 - (length columns - 1 - i) ≡ i = omega arith in ap (λ n. get_or columns n 0) same
-
--- a greater column has a lesser number
-falls : (columns : List ℕ) → IsStrictlyIncreasing columns → (i j : ℕ) → i < length columns → j < length columns → column_numbered columns j < column_numbered columns i → i < j
-falls columns h i j hi hj less =
+-- a greater column has a greater number
+mounts : (columns : List ℕ) → IsStrictlyIncreasing columns → (i j : ℕ) → i < length columns → j < length columns → get_or columns i 0 < get_or columns j 0 → i < j
+mounts columns h i j hi hj less =
     elim (cases_order i j) [
-      | inl same ↦ absurd (let e : column_numbered columns i ≡ column_numbered columns j = ap (column_numbered columns) same in omega arith)
+      | inl same ↦ absurd (let e : get_or columns i 0 ≡ get_or columns j 0 = ap (λ n. get_or columns n 0) same in omega arith)
       | inr (inl before) ↦ before
-      | inr (inr after) ↦ absurd (let l : column_numbered columns i < column_numbered columns j = rises columns h (length columns - 1 - i) (length columns - 1 - j) (omega arith) (omega arith) in omega arith)
+      | inr (inr after) ↦ absurd (let l : get_or columns j 0 < get_or columns i 0 = rises columns h j i after hi in omega arith)
     ]
 
--- the cells of a row, numbered and put one by one in front of those that are done
-shape_onto : (columns : List ℕ) → IsStrictlyIncreasing columns → (x y : Cell) (xs ys done : List Cell) → IsNumbered columns (x ∷ xs) (y ∷ ys) → IsRow (x ∷ xs) → IsRow (y ∷ done) → IsRow (reverse ys ++ y ∷ done)
-shape_onto columns h x y [] [] done n r d = d
-shape_onto columns h x y [] (v ∷ vs) done n r d = absurd n.3
-shape_onto columns h x y (u ∷ us) [] done n r d = absurd n.3
-shape_onto columns h x y (u ∷ us) (v ∷ vs) done n r d =
-    let less : column_numbered columns y.column < column_numbered columns v.column = omega (arith, r.rising.0, n.1, n.3.1) in
-    subst IsRow (sym (reverse-cons v vs (y ∷ done)))
-    (shape_onto columns h u v us vs (y ∷ done) n.3 (row_front x (u ∷ us) r).2
-    (row_cons v (y ∷ done) (λ e. r.nonzero.1.0 (sym n.3.2 ∙ e)) (falls columns h v.column y.column n.3.0 n.0 less) d))
+first_mounts : (columns : List ℕ) → IsStrictlyIncreasing columns → (x y : Cell) (xs ys : List Cell) → IsNumbered columns (x ∷ xs) (y ∷ ys) → IsBelowFirst x.column (columns_of xs) → IsBelowFirst y.column (columns_of ys)
+first_mounts columns h x y [] [] n b = tt
+first_mounts columns h x y [] (v ∷ vs) n b = absurd n.3
+first_mounts columns h x y (u ∷ us) [] n b = absurd n.3
+first_mounts columns h x y (u ∷ us) (v ∷ vs) n b = mounts columns h y.column v.column n.0 n.3.0 (omega (arith, n.1, n.3.1, b))
 
--- numbered cells rise, from the last to the first
-pub numbered_shape : (columns : List ℕ) → IsStrictlyIncreasing columns → (xs ys : List Cell) → IsNumbered columns xs ys → IsRow xs → IsRow (reverse ys)
+-- numbered cells are a row
+pub numbered_shape : (columns : List ℕ) → IsStrictlyIncreasing columns → (xs ys : List Cell) → IsNumbered columns xs ys → IsRow xs → IsRow ys
 numbered_shape columns h [] [] n r = row_nil
 numbered_shape columns h [] (y ∷ ys) n r = absurd n
 numbered_shape columns h (x ∷ xs) [] n r = absurd n
-numbered_shape columns h (x ∷ xs) (y ∷ ys) n r = subst IsRow (sym (reverse_onto ys y [])) (shape_onto columns h x y xs ys [] n r (row_cons y [] (λ e. r.nonzero.0 (sym n.2 ∙ e)) tt row_nil))
+numbered_shape columns h (x ∷ xs) (y ∷ ys) n r =
+    row_cons y ys (λ e. r.nonzero.0 (sym n.2 ∙ e)) (first_mounts columns h x y xs ys n r.rising.0) (numbered_shape columns h xs ys n.3 (row_front x xs r).2)
 
 numbered_below : (columns : List ℕ) (xs ys : List Cell) → IsNumbered columns xs ys → AllBelow (length columns) ys
 numbered_below columns [] [] n = tt
@@ -91,7 +81,7 @@ numbered_elements k columns (x ∷ xs) [] n h = absurd n
 numbered_elements k columns (x ∷ xs) (y ∷ ys) n h = (subst (IsElement k) (sym n.2) h.0, numbered_elements k columns xs ys n.3 h.1)
 
 -- one more cell at the end of both
-pub numbered-push : (columns : List ℕ) (xs ys : List Cell) (x y : Cell) → IsNumbered columns xs ys → y.column < length columns → column_numbered columns y.column ≡ x.column → y.coefficient ≡ x.coefficient → IsNumbered columns (xs ++ x ∷ []) (ys ++ y ∷ [])
+pub numbered-push : (columns : List ℕ) (xs ys : List Cell) (x y : Cell) → IsNumbered columns xs ys → y.column < length columns → get_or columns y.column 0 ≡ x.column → y.coefficient ≡ x.coefficient → IsNumbered columns (xs ++ x ∷ []) (ys ++ y ∷ [])
 numbered-push columns [] [] x y n inside at same = (inside, at, same, tt)
 numbered-push columns [] (v ∷ vs) x y n inside at same = absurd n
 numbered-push columns (u ∷ us) [] x y n inside at same = absurd n
@@ -117,26 +107,25 @@ find_column columns x (suc n) =
 
 -- a numbered row has columns below the length of the list
 row_below : (columns : List ℕ) (rows numbered : List (List Cell)) → AreNumbered columns rows numbered → (j : ℕ) → AllBelow (length columns) (row_at numbered j)
-row_below columns rows numbered all j = all_reversed (λ c. c.column < length columns) (row_at numbered j) (numbered_below columns (row_at rows j) (reverse (row_at numbered j)) (all.each j))
+row_below columns rows numbered all j = numbered_below columns (row_at rows j) (row_at numbered j) (all.each j)
 
 module _ (k : FieldValue) (is : IsField k) (columns : List ℕ) (rising : IsStrictlyIncreasing columns) where
-  same_number : (i j : ℕ) → i < length columns → j < length columns → column_numbered columns i ≡ column_numbered columns j → i ≡ j
-  same_number i j hi hj e =
-      let same : length columns - 1 - i ≡ length columns - 1 - j = numbers_differ columns rising (length columns - 1 - i) (length columns - 1 - j) (omega arith) (omega arith) e in omega arith
+  same_number : (i j : ℕ) → i < length columns → j < length columns → get_or columns i 0 ≡ get_or columns j 0 → i ≡ j
+  same_number i j hi hj e = numbers_differ columns rising i j hi hj e
 
   -- the entry at a number is that at its column
-  entry_numbered : (xs ys : List Cell) (r : ℕ) → IsNumbered columns xs ys → r < length columns → entry k ys r ≡ entry k xs (column_numbered columns r)
-  entry_numbered [] [] r n inside = entry-nil k r ∙ sym (entry-nil k (column_numbered columns r))
+  entry_numbered : (xs ys : List Cell) (r : ℕ) → IsNumbered columns xs ys → r < length columns → entry k ys r ≡ entry k xs (get_or columns r 0)
+  entry_numbered [] [] r n inside = entry-nil k r ∙ sym (entry-nil k (get_or columns r 0))
   entry_numbered [] (y ∷ ys) r n inside = absurd n
   entry_numbered (x ∷ xs) [] r n inside = absurd n
   entry_numbered (x ∷ xs) (y ∷ ys) r n inside =
-      entry-cons k y ys r ∙ ap₂ (plus k) cell (entry_numbered xs ys r n.3 inside) ∙ sym (entry-cons k x xs (column_numbered columns r))
+      entry-cons k y ys r ∙ ap₂ (plus k) cell (entry_numbered xs ys r n.3 inside) ∙ sym (entry-cons k x xs (get_or columns r 0))
     where
-      cell : cell_value y r ≡ cell_value x (column_numbered columns r)
+      cell : cell_value y r ≡ cell_value x (get_or columns r 0)
       cell =
           elim (cases_eq y.column r) [
-            | inl here ↦ cell_here y r here ∙ n.2 ∙ sym (cell_here x (column_numbered columns r) (sym n.1 ∙ ap (column_numbered columns) here))
-            | inr there ↦ cell_elsewhere y r there ∙ sym (cell_elsewhere x (column_numbered columns r) (λ e. there (same_number y.column r n.0 inside (n.1 ∙ e))))
+            | inl here ↦ cell_here y r here ∙ n.2 ∙ sym (cell_here x (get_or columns r 0) (sym n.1 ∙ ap (λ i. get_or columns i 0) here))
+            | inr there ↦ cell_elsewhere y r there ∙ sym (cell_elsewhere x (get_or columns r 0) (λ e. there (same_number y.column r n.0 inside (n.1 ∙ e))))
           ]
 
   -- a column that doesn't occur has no entry
@@ -145,21 +134,21 @@ module _ (k : FieldValue) (is : IsField k) (columns : List ℕ) (rising : IsStri
   entry_absent [] (y ∷ ys) x n none = absurd n
   entry_absent (c ∷ xs) [] x n none = absurd n
   entry_absent (c ∷ xs) (y ∷ ys) x n none =
-      entry-cons k c xs x ∙ ap₂ (plus k) (cell_elsewhere c x (λ e. none (length columns - 1 - y.column) (omega (arith, n.0)) (n.1 ∙ e))) (entry_absent xs ys x n.3 none) ∙ plus_zero k 0 (zero_is_element k is)
+      entry-cons k c xs x ∙ ap₂ (plus k) (cell_elsewhere c x (λ e. none y.column n.0 (n.1 ∙ e))) (entry_absent xs ys x n.3 none) ∙ plus_zero k 0 (zero_is_element k is)
 
   module _ (rows numbered : List (List Cell)) (all : AreNumbered columns rows numbered) where
-    row_numbered : (j r : ℕ) → r < length columns → entry k (row_at numbered j) r ≡ entry k (row_at rows j) (column_numbered columns r)
-    row_numbered j r inside = sym (entry-reverse k is (row_at numbered j) r) ∙ entry_numbered (row_at rows j) (reverse (row_at numbered j)) r (all.each j) inside
+    row_numbered : (j r : ℕ) → r < length columns → entry k (row_at numbered j) r ≡ entry k (row_at rows j) (get_or columns r 0)
+    row_numbered j r inside = entry_numbered (row_at rows j) (row_at numbered j) r (all.each j) inside
 
     row_absent : (j x : ℕ) → ((r : ℕ) → r < length columns → get_or columns r 0 ≢ x) → entry k (row_at rows j) x ≡ 0
-    row_absent j x none = entry_absent (row_at rows j) (reverse (row_at numbered j)) x (all.each j) none
+    row_absent j x none = entry_absent (row_at rows j) (row_at numbered j) x (all.each j) none
 
-    combined_numbered : (cells : List Cell) (r : ℕ) → r < length columns → combined k numbered cells r ≡ combined k rows cells (column_numbered columns r)
-    combined_numbered [] r inside = combined-nil k numbered r ∙ sym (combined-nil k rows (column_numbered columns r))
+    combined_numbered : (cells : List Cell) (r : ℕ) → r < length columns → combined k numbered cells r ≡ combined k rows cells (get_or columns r 0)
+    combined_numbered [] r inside = combined-nil k numbered r ∙ sym (combined-nil k rows (get_or columns r 0))
     combined_numbered (c ∷ cells) r inside =
         combined-cons k numbered c cells r
         ∙ ap₂ (λ a b. plus k (times k c.coefficient a) b) (row_numbered c.column r inside) (combined_numbered cells r inside)
-        ∙ sym (combined-cons k rows c cells (column_numbered columns r))
+        ∙ sym (combined-cons k rows c cells (get_or columns r 0))
 
     combined_absent : (cells : List Cell) (x : ℕ) → ((r : ℕ) → r < length columns → get_or columns r 0 ≢ x) → combined k rows cells x ≡ 0
     combined_absent [] x none = combined-nil k rows x
@@ -184,10 +173,8 @@ module _ (k : FieldValue) (is : IsField k) (columns : List ℕ) (rising : IsStri
       value = λ x.
           elim (find_column columns x (length columns)) [
             | inl found ↦
-                let r : ℕ = length columns - 1 - found.0 in
-                let inside : r < length columns = omega (arith, found.1) in
-                subst (λ y. entry k (row_at rows j) y ≡ combined k rows cells y) (number_at columns found.0 found.1 ∙ found.2)
-                (sym (row_numbered j r inside) ∙ c.value r ∙ combined_numbered cells r inside)
+                subst (λ y. entry k (row_at rows j) y ≡ combined k rows cells y) found.2
+                (sym (row_numbered j found.0 found.1) ∙ c.value found.0 ∙ combined_numbered cells found.0 found.1)
             | inr none ↦ row_absent j x none ∙ sym (combined_absent cells x none)
           ];
     }
@@ -199,7 +186,7 @@ module _ (k : FieldValue) (is : IsField k) (columns : List ℕ) (rising : IsStri
       value = λ r.
           elim (cases_lt r (length columns)) [
             | inl inside ↦
-                row_numbered j r inside ∙ c.value (column_numbered columns r) ∙ sym (combined_numbered cells r inside)
+                row_numbered j r inside ∙ c.value (get_or columns r 0) ∙ sym (combined_numbered cells r inside)
             | inr above ↦ beyond j r above ∙ sym (combined_beyond cells r above)
           ];
     }
@@ -214,22 +201,16 @@ module _ (k : FieldValue) (is : IsField k) (columns : List ℕ) (rising : IsStri
       each = λ j h. place_to_rows places j (place_at places j) (s.each j (omega (arith, all.count)));
     }
 
-all_rows : (P : List Cell → Type 0) (rows : List (List Cell)) → ((j : ℕ) → j < length rows → P (row_at rows j)) → AllByRecursion P rows
-all_rows P [] h = tt
-all_rows P (row ∷ rows) h = (h 0 (omega arith), all_rows P rows (λ j l. h (suc j) (omega arith)))
-
-row_of_all : (P : List Cell → Type 0) (rows : List (List Cell)) → P [] → AllByRecursion P rows → (j : ℕ) → P (row_at rows j)
-row_of_all P [] none h j = none
-row_of_all P (row ∷ rows) none h zero = h.0
-row_of_all P (row ∷ rows) none h (suc j) = row_of_all P rows none h.1 j
-
 pub rows_below : (columns : List ℕ) (rows numbered : List (List Cell)) → AreNumbered columns rows numbered → AllRowsBelow (length columns) numbered
 rows_below columns rows numbered all = all_rows (AllBelow (length columns)) numbered (λ j h. row_below columns rows numbered all j)
 
 pub rows_elements : (k : FieldValue) (columns : List ℕ) (rows numbered : List (List Cell)) → AreNumbered columns rows numbered → AllRowsElements k rows → AllRowsElements k numbered
 rows_elements k columns rows numbered all h =
-    all_rows (AllElements k) numbered (λ j l.
-    all_reversed (λ c. IsElement k c.coefficient) (row_at numbered j) (numbered_elements k columns (row_at rows j) (reverse (row_at numbered j)) (all.each j) (row_of_all (AllElements k) rows tt h j)))
+    all_rows (AllElements k) numbered (λ j l. numbered_elements k columns (row_at rows j) (row_at numbered j) (all.each j) (row_of_all (AllElements k) rows tt h j))
+
+pub rows_shape : (columns : List ℕ) → IsStrictlyIncreasing columns → (rows numbered : List (List Cell)) → AreNumbered columns rows numbered → AreRows rows → AreRows numbered
+rows_shape columns rising rows numbered all h =
+    all_rows IsRow numbered (λ j l. numbered_shape columns rising (row_at rows j) (row_at numbered j) (all.each j) (row_of_all IsRow rows row_nil h j))
 
 -- the columns of all rows
 pub all_columns-drop : (rows : List (List Cell)) (i : ℕ) → i < length rows → all_columns (drop i rows) ≡ columns_of (row_at rows i) ++ all_columns (drop (i + 1) rows)
@@ -259,7 +240,7 @@ unfolding all_columns
 all_columns-none rows i h = ap all_columns (drop_all i rows h)
 
 pub numbered_more : (columns : List ℕ) (cells : List Cell) (i : ℕ) (c : Cell) (out next : List Cell) (y : Cell) → i < length cells → c ≡ get_or cells i c → next ≡ out ++ y ∷ [] → IsNumbered columns (take i cells) out →
-    y.column < length columns → column_numbered columns y.column ≡ c.column → y.coefficient ≡ c.coefficient → IsNumbered columns (take (i + 1) cells) next
+    y.column < length columns → get_or columns y.column 0 ≡ c.column → y.coefficient ≡ c.coefficient → IsNumbered columns (take (i + 1) cells) next
 numbered_more columns cells i c out next y h e n old inside at same =
     subst (λ (ys : List Cell). IsNumbered columns (take (i + 1) cells) ys) (sym n)
     (subst (λ (xs : List Cell). IsNumbered columns xs (out ++ y ∷ [])) (sym (take_more cells i c h ∙ ap (λ (d : Cell). take i cells ++ d ∷ []) (sym e))) (numbered-push columns (take i cells) out c y old inside at same))

@@ -1,8 +1,8 @@
 -- The shape of rows.
-use Rattle.std.proofs.Common.{◌≡◌, ◌≢◌, ◌<◌, ℕ, List, [], ◌∷◌, ◌++◌, refl, ap, arith, zero, suc, get_or, length, subst, sym, ◌∙◌, reverse, append_assoc}
+use Rattle.std.proofs.Common.{◌≡◌, ◌≢◌, ◌<◌, ◌+◌, ℕ, List, [], ◌∷◌, ◌++◌, refl, ap, arith, zero, suc, get_or, length, subst, sym}
 use Rattle.std.specs.List.{AllByRecursion}
-use Rattle.std.proofs.lemmas.Grind.{reverse_onto}
-use Rattle.nichols_echelon.specs.Cells.{Cell, IsRow, IsRising, IsBelowFirst, columns_of}
+use Rattle.nichols_echelon.specs.Combination.{row_at}
+use Rattle.nichols_echelon.specs.Cells.{Cell, IsRow, IsRising, IsBelowFirst, AllBelow, columns_of}
 
 pub row_front : (c : Cell) (cells : List Cell) → IsRow (c ∷ cells) → (c.coefficient ≢ 0) × IsBelowFirst c.column (columns_of cells) × IsRow cells
 row_front c cells h = (h.nonzero.0, h.rising.0, record { rising = h.rising.1; nonzero = h.nonzero.1 })
@@ -37,53 +37,6 @@ all_both P Q R f (x ∷ xs) h k = (f x h.0 k.0, all_both P Q R f xs h.1 k.1)
 pub all_push : {X : Type 0} (P : X → Type 0) (xs : List X) (y : X) → AllByRecursion P xs → P y → AllByRecursion P (xs ++ y ∷ [])
 all_push P xs y h k = all_append P xs (y ∷ []) h (k, tt)
 
-pub reverse-cons : {X : Type 0} (x : X) (xs ys : List X) → reverse (x ∷ xs) ++ ys ≡ reverse xs ++ x ∷ ys
-reverse-cons x xs ys = ap (λ zs. zs ++ ys) (reverse_onto xs x []) ∙ append_assoc (reverse xs) (x ∷ []) ys
-
-pub all_reversed : {X : Type 0} (P : X → Type 0) (xs : List X) → AllByRecursion P (reverse xs) → AllByRecursion P xs
-all_reversed P [] h = tt
-all_reversed P (x ∷ xs) h =
-    let both : AllByRecursion P (reverse xs ++ x ∷ []) = subst (AllByRecursion P) (reverse_onto xs x []) h in
-    ((all_back P (reverse xs) (x ∷ []) both).0, all_reversed P xs (all_front P (reverse xs) (x ∷ []) both))
-
--- rising columns, at a column in the middle
-below_joined : (v : ℕ) (vs : List ℕ) (w : ℕ) (us : List ℕ) → IsBelowFirst v (vs ++ w ∷ []) → IsBelowFirst v (vs ++ w ∷ us)
-below_joined v [] w us h = h
-below_joined v (x ∷ vs) w us h = h
-
-pub rising_joined : (vs : List ℕ) (w : ℕ) (us : List ℕ) → IsRising (vs ++ w ∷ []) → IsRising (w ∷ us) → IsRising (vs ++ w ∷ us)
-rising_joined [] w us h k = k
-rising_joined (v ∷ vs) w us h k = (below_joined v vs w us h.0, rising_joined vs w us h.1 k)
-
-below_front : (v : ℕ) (vs : List ℕ) (w : ℕ) (us : List ℕ) → IsBelowFirst v (vs ++ w ∷ us) → IsBelowFirst v (vs ++ w ∷ [])
-below_front v [] w us h = h
-below_front v (x ∷ vs) w us h = h
-
-pub rising_front : (vs : List ℕ) (w : ℕ) (us : List ℕ) → IsRising (vs ++ w ∷ us) → IsRising (vs ++ w ∷ [])
-rising_front [] w us h = (tt, tt)
-rising_front (v ∷ vs) w us h = (below_front v vs w us h.0, rising_front vs w us h.1)
-
-pub rising_back : (vs us : List ℕ) → IsRising (vs ++ us) → IsRising us
-rising_back [] us h = h
-rising_back (v ∷ vs) us h = rising_back vs us h.1
-
-below_after : (v w : ℕ) (us : List ℕ) → v < w → IsBelowFirst w us → IsBelowFirst v us
-below_after v w [] h k = tt
-below_after v w (u ∷ us) h k = omega arith
-
-below_without : (v : ℕ) (vs : List ℕ) (w : ℕ) (us : List ℕ) → IsBelowFirst v (vs ++ w ∷ us) → IsRising (vs ++ w ∷ us) → IsBelowFirst v (vs ++ us)
-below_without v [] w us h k = below_after v w us h k.0
-below_without v (x ∷ vs) w us h k = h
-
--- a column in the middle may go
-pub rising_without : (vs : List ℕ) (w : ℕ) (us : List ℕ) → IsRising (vs ++ w ∷ us) → IsRising (vs ++ us)
-rising_without [] w us h = h.1
-rising_without (v ∷ vs) w us h = (below_without v vs w us h.0 h.1, rising_without vs w us h.1)
-
-pub columns_of-push : (cells : List Cell) (c : Cell) (us : List ℕ) → columns_of (cells ++ c ∷ []) ++ us ≡ columns_of cells ++ c.column ∷ us
-columns_of-push [] c us = refl
-columns_of-push (d ∷ cells) c us = ap (λ vs. d.column ∷ vs) (columns_of-push cells c us)
-
 pub columns_of-append : (xs ys : List Cell) → columns_of (xs ++ ys) ≡ columns_of xs ++ columns_of ys
 columns_of-append [] ys = refl
 columns_of-append (x ∷ xs) ys = ap (λ vs. x.column ∷ vs) (columns_of-append xs ys)
@@ -93,3 +46,63 @@ pub all_read : {X : Type 0} (P : X → Type 0) (xs : List X) (i : ℕ) (x d : X)
 all_read P [] i x d h inside e = absurd (omega (arith, inside))
 all_read P (y ∷ xs) zero x d h inside e = subst P (sym e) h.0
 all_read P (y ∷ xs) (suc i) x d h inside e = all_read P xs i x d h.1 (omega (arith, inside)) e
+
+-- a row grows by a cell behind all its columns
+rising-push : (columns : List ℕ) (w : ℕ) → AllByRecursion (λ v. v < w) columns → IsRising columns → IsRising (columns ++ w ∷ [])
+rising-push [] w below h = (tt, tt)
+rising-push (v ∷ columns) w below h = (first columns below.0 h.0, rising-push columns w below.1 h.1)
+  where
+    first : (us : List ℕ) → v < w → IsBelowFirst v us → IsBelowFirst v (us ++ w ∷ [])
+    first [] l b = l
+    first (u ∷ us) l b = b
+
+columns_below : (w : ℕ) (cells : List Cell) → AllBelow w cells → AllByRecursion (λ v. v < w) (columns_of cells)
+columns_below w [] h = tt
+columns_below w (c ∷ cells) h = (h.0, columns_below w cells h.1)
+
+pub row-push : (cells : List Cell) (c : Cell) → IsRow cells → AllBelow c.column cells → c.coefficient ≢ 0 → IsRow (cells ++ c ∷ [])
+row-push cells c h below nonzero = record {
+  rising = subst IsRising (sym (columns_of-append cells (c ∷ []))) (rising-push (columns_of cells) c.column (columns_below c.column cells below) h.rising);
+  nonzero = all_push (λ d. d.coefficient ≢ 0) cells c h.nonzero nonzero;
+}
+
+-- the front of a row that ends in a cell
+rising_last : (columns : List ℕ) (w : ℕ) → IsRising (columns ++ w ∷ []) → IsRising columns × AllByRecursion (λ v. v < w) columns
+rising_last [] w h = (tt, tt)
+rising_last (v ∷ columns) w h =
+    let rest : IsRising columns × AllByRecursion (λ u. u < w) columns = rising_last columns w h.1 in
+    ((first columns h.0, rest.0), (least columns h.0 rest.1, rest.1))
+  where
+    first : (us : List ℕ) → IsBelowFirst v (us ++ w ∷ []) → IsBelowFirst v us
+    first [] b = tt
+    first (u ∷ us) b = b
+
+    least : (us : List ℕ) → IsBelowFirst v (us ++ w ∷ []) → AllByRecursion (λ u. u < w) us → v < w
+    least [] b below = b
+    least (u ∷ us) b below = omega (arith, below.0)
+
+cells_below : (w : ℕ) (cells : List Cell) → AllByRecursion (λ v. v < w) (columns_of cells) → AllBelow w cells
+cells_below w [] h = tt
+cells_below w (c ∷ cells) h = (h.0, cells_below w cells h.1)
+
+pub row_last : (cells : List Cell) (c : Cell) → IsRow (cells ++ c ∷ []) → IsRow cells × AllBelow c.column cells × (c.coefficient ≢ 0)
+row_last cells c h =
+    let r : IsRising (columns_of cells) × AllByRecursion (λ v. v < c.column) (columns_of cells) = rising_last (columns_of cells) c.column (subst IsRising (columns_of-append cells (c ∷ [])) h.rising) in
+    (record { rising = r.0; nonzero = all_front (λ d. d.coefficient ≢ 0) cells (c ∷ []) h.nonzero }, cells_below c.column cells r.1, (all_back (λ d. d.coefficient ≢ 0) cells (c ∷ []) h.nonzero).0)
+
+-- what holds of each row of a list
+pub all_rows : (P : List Cell → Type 0) (rows : List (List Cell)) → ((j : ℕ) → j < length rows → P (row_at rows j)) → AllByRecursion P rows
+all_rows P [] h = tt
+all_rows P (row ∷ rows) h = (h 0 (omega arith), all_rows P rows (λ j l. h (suc j) (omega arith)))
+
+pub row_of_all : (P : List Cell → Type 0) (rows : List (List Cell)) → P [] → AllByRecursion P rows → (j : ℕ) → P (row_at rows j)
+row_of_all P [] none h j = none
+row_of_all P (row ∷ rows) none h zero = h.0
+row_of_all P (row ∷ rows) none h (suc j) = row_of_all P rows none h.1 j
+
+-- each column of a row is at most the last
+pub below_end : (cells front : List Cell) (last : Cell) → cells ≡ front ++ last ∷ [] → IsRow cells → AllBelow (last.column + 1) cells
+below_end cells front last e h =
+    let r : IsRow front × AllBelow last.column front × (last.coefficient ≢ 0) = row_last front last (subst IsRow e h) in
+    subst (AllBelow (last.column + 1)) (sym e)
+    (all_push (λ c. c.column < last.column + 1) front last (all_weaker (λ c. c.column < last.column) (λ c. c.column < last.column + 1) (λ c b. omega (arith, b)) front r.1) (omega arith))

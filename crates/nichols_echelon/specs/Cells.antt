@@ -1,5 +1,5 @@
 -- Rows of a sparse matrix over the field: lists of cells.
-use Rattle.std.specs.Prelude.{◌≢◌, ◌<◌, ◌==◌, ℕ, List, [], ◌∷◌, if◌then◌else◌, Option, None, Some}
+use Rattle.std.specs.Prelude.{◌≢◌, ◌<◌, ◌==◌, ℕ, List, [], ◌∷◌, if◌then◌else◌}
 use Rattle.std.specs.List.{AllByRecursion}
 use Rattle.nichols_field.specs.Field.{FieldValue, IsElement, plus}
 
@@ -20,11 +20,6 @@ entry field (c ∷ cells) column = plus field (cell_value c column) (entry field
 abbrev pub columns_of : List Cell → List ℕ
 columns_of [] = []
 columns_of (c ∷ cells) = c.column ∷ columns_of cells
-
--- the first coefficient, if there is one
-abbrev pub first_coefficient : List Cell → Option ℕ
-first_coefficient [] = None
-first_coefficient (c ∷ cells) = Some c.coefficient
 
 -- the column is less than the first of the list, if there is one
 abbrev pub IsBelowFirst : ℕ → List ℕ → Type 0

@@ -2,7 +2,7 @@
 use Rattle.std.specs.Prelude.{◌≡◌, ℕ, List, [], ◌∷◌, slice_index_or}
 use Rattle.std.specs.List.{AllByRecursion}
 use Rattle.nichols_field.specs.Field.{FieldValue, plus, times}
-use Rattle.nichols_echelon.specs.Cells.{Cell, entry, AllElements, AllBelow}
+use Rattle.nichols_echelon.specs.Cells.{Cell, entry, IsRow, AllElements, AllBelow}
 
 -- the row at a position, from 0
 abbrev pub row_at : List (List Cell) → ℕ → List Cell
@@ -15,6 +15,10 @@ AllRowsElements field rows = AllByRecursion (λ row. AllElements field row) rows
 -- each column of each row is below a bound
 abbrev pub AllRowsBelow : ℕ → List (List Cell) → Type 0
 AllRowsBelow bound rows = AllByRecursion (λ row. AllBelow bound row) rows
+
+-- the columns of each row rise, and no coefficient is 0
+abbrev pub AreRows : List (List Cell) → Type 0
+AreRows rows = AllByRecursion (λ row. IsRow row) rows
 
 -- the entry at a column of a combination of rows: each cell is the position of a row with its coefficient
 unfoldable pub combined : FieldValue → List (List Cell) → List Cell → ℕ → ℕ

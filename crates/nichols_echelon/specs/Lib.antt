@@ -1,9 +1,11 @@
+-- what contracts of this crate and of those above cite
 pub mod Cells
 pub mod Combination
 pub mod Split
+pub mod Rows
+pub mod Sums
+-- what this crate's own functions cite
 pub mod Echelon
-pub mod Settled
-pub mod Next
-pub mod Accumulator
-pub mod Pivots
+pub mod Sweep
+pub mod NextRow
 pub mod Numbering

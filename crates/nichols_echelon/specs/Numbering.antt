@@ -1,5 +1,5 @@
--- Rows with their columns numbered: each column is named by how many of those that occur are greater.
-use Rattle.std.specs.Prelude.{◌≡◌, ◌<◌, ◌-◌, ℕ, List, [], ◌∷◌, ◌++◌, length, reverse, slice_index}
+-- Rows with their columns numbered: each column is named by how many of those that occur are less.
+use Rattle.std.specs.Prelude.{◌≡◌, ◌<◌, ℕ, List, [], ◌∷◌, ◌++◌, length, slice_index}
 use Rattle.std.specs.List.{AllByRecursion, Contains}
 use Rattle.nichols_echelon.specs.Cells.{Cell, columns_of}
 use Rattle.nichols_echelon.specs.Combination.{row_at}
@@ -13,18 +13,14 @@ all_columns (row ∷ rows) = columns_of row ++ all_columns rows
 abbrev pub AllListed : List ℕ → List Cell → Type 0
 AllListed columns cells = AllByRecursion (λ c. Contains columns c.column) cells
 
--- the column with a number, in a rising list: so many columns stand behind it
-abbrev pub column_numbered : List ℕ → ℕ → ℕ
-column_numbered columns number = slice_index columns (length columns - 1 - number)
-
--- each cell in turn with its column's number in place of its column
+-- each cell in turn with its column's place in the list instead of its column
 abbrev pub IsNumbered : List ℕ → List Cell → List Cell → Type 0
 IsNumbered columns [] [] = Unit {0}
 IsNumbered columns [] (y ∷ ys) = ⊥
 IsNumbered columns (x ∷ xs) [] = ⊥
-IsNumbered columns (x ∷ xs) (y ∷ ys) = (y.column < length columns) × (column_numbered columns y.column ≡ x.column) × (y.coefficient ≡ x.coefficient) × IsNumbered columns xs ys
+IsNumbered columns (x ∷ xs) (y ∷ ys) = (y.column < length columns) × (slice_index columns y.column ≡ x.column) × (y.coefficient ≡ x.coefficient) × IsNumbered columns xs ys
 
--- each row numbered: as greater columns have lesser numbers, its cells stand in reversed order
+-- each row numbered
 pub record AreNumbered (columns : List ℕ) (rows numbered : List (List Cell)) : Type 0 where
   pub count : length numbered ≡ length rows
-  pub each : (k : ℕ) → IsNumbered columns (row_at rows k) (reverse (row_at numbered k))
+  pub each : (k : ℕ) → IsNumbered columns (row_at rows k) (row_at numbered k)

@@ -1,7 +1,7 @@
 //! The laws of combinations of rows, for the crates above.
 
 ghost use Rattle.std.specs.Prelude.{◌≡◌, ◌<◌, ◌↔◌, length};
-ghost use Rattle.nichols_echelon.specs.Cells.{IsRow, AllElements};
+ghost use Rattle.nichols_echelon.specs.Cells.{AllElements};
 ghost use Rattle.nichols_echelon.specs.Combination.{IsDependent, AllFree, AreEqualCombinations};
 ghost use Rattle.nichols_echelon.specs.Split.{IsSplit, place_at};
 ghost use Rattle.nichols_echelon.specs.declared.rows.Place.TheVariants.{Independent};

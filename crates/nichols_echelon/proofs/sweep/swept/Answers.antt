@@ -1,44 +1,67 @@
-use Rattle.std.proofs.Common.{sym, ◌∙◌, subst}
-use Rattle.nichols_field.specs.Field.{IsElement}
-use Rattle.nichols_field.proofs.FieldLaws.{one_is_element, zero_is_element}
-use Rattle.nichols_echelon.proofs.Sweeping.{sweep_start, turn_numbers, turn_none, turn_free, turn_pivot, swept_all}
-use Rattle.nichols_echelon.proofs.sweep.swept.Goals.{then-value-ne0+in-Some-pivots+in_ok-push-in-Some-pivots, then-value-ne0+in-None+in_ok-push-in-None, else-value-ne0}
+use Rattle.std.proofs.Common.{◌≡◌, ◌<◌, Some, None, sym, ◌∙◌, ap, subst, arith, length, get_or}
+use Rattle.std.proofs.lemmas.List.{get_or_default}
+use Rattle.nichols_field.specs.Field.{IsElement, times}
+use Rattle.nichols_echelon.specs.Cells.{Cell, AllElements, AllBelow}
+use Rattle.nichols_echelon.specs.Combination.{row_at}
+use Rattle.nichols_echelon.specs.Echelon.{kept_rows, IsPivot}
+use Rattle.nichols_echelon.specs.Sums.{IsTaken}
+use Rattle.nichols_echelon.specs.Sweep.{IsSwept}
+use Rattle.nichols_echelon.proofs.Kept.{kept_at, pivot_read}
+use Rattle.nichols_echelon.proofs.Taking.{zero_past}
+use Rattle.nichols_echelon.proofs.Sweeping.{sweep_start, sweep_free, sweep_pivot}
 use Rattle.nichols_echelon.proofs.sweep.swept.Goals as goal
 
-pub add_scaled-requires-clause-factor : goal.add_scaled-requires-clause-factor
-add_scaled-requires-clause-factor c = one_is_element c.args.field c.modulus-modulus.ensures.field
+pub loop-cell-init : goal.loop-cell-init
+loop-cell-init c =
+    rw c.new-steps.ensures.items
+    (sweep_start c.args.field c.modulus-modulus.ensures.field (kept_rows c.args.rows.now.rows c.args.echelon.now.left.rows) c.args.echelon.now.pivots.items (length c.args.echelon.now.left.rows) c.args.sums.now c.width-end.result
+    (zero_past c.args.field c.modulus-modulus.ensures.field c.args.sums.now c.width-end.result (omega (arith, c.width-end.ensures))) (omega (arith, c.width-end.ensures)))
 
-pub add_scaled-requires-clause-numbers : goal.add_scaled-requires-clause-numbers
-add_scaled-requires-clause-numbers c = λ x. subst (IsElement c.args.field) (sym (c.requires.clear x)) (zero_is_element c.args.field c.modulus-modulus.ensures.field)
+pub returns-in-None-clause-swept : goal.returns-in-None-clause-swept
+returns-in-None-clause-swept c =
+    subst (λ (d : Cell). IsSwept c.args.field (kept_rows c.args.rows.now.rows c.args.echelon.now.left.rows) c.args.echelon.now.pivots.items (length c.args.echelon.now.left.rows) c.args.sums.now c.put.new.self (Some d) c.loop-cell.steps.items) c.cell.view_is
+    (sweep_free c.args.field c.modulus-modulus.ensures.field (kept_rows c.args.rows.now.rows c.args.echelon.now.left.rows) c.args.echelon.now.pivots.items (length c.args.echelon.now.left.rows) c.args.sums.now c.loop-cell.steps.items
+    c.loop-cell.sums c.loop-cell.end c.loop-cell.invariant c.take_last.new.self (record { column = c.cell.inside.column; coefficient = c.cell.inside.coefficient })
+    (subst (λ (d : Cell). IsTaken c.args.field c.loop-cell.sums c.take_last.new.self d) (sym c.cell.view_is) c.in-Some.ensures.cell) c.put.new.self
+    (pivot_read c.args.echelon.now.pivots.items c.cell.inside.column c.index.result.now None (omega (arith, c.in-Some.ensures.cell.inside, ap (λ (d : Cell). d.column) c.cell.view_is, c.loop-cell.invariant.width, c.requires.width)) c.index.ensures c.in-None.is) c.put.ensures.here c.put.ensures.elsewhere (c.put.ensures.width ∙ c.take_last.ensures.width))
 
-pub loop-column-init : goal.loop-column-init
-loop-column-init c =
-    rw (c.new-cells.ensures.items, c.new-steps.ensures.items)
-    (sweep_start c.args.field c.modulus-modulus.ensures.field c.args.kept.now c.args.pivots.now c.args.row.now c.args.sums.now c.add_scaled.new.self c.requires.clear (c.add_scaled.ensures.width ∙ c.requires.width) c.add_scaled.ensures.value)
+pub index-factor-requires : goal.index-factor-requires
+index-factor-requires c = omega (arith, (c.requires.echelon.known c.cell.inside.column c.in-Some-index.position (pivot_read c.args.echelon.now.pivots.items c.cell.inside.column c.index.result.now (Some c.in-Some-index.position) (omega (arith, c.in-Some.ensures.cell.inside, ap (λ (d : Cell). d.column) c.cell.view_is, c.loop-cell.invariant.width, c.requires.width)) c.index.ensures c.in-Some-index.is)).0, c.requires.echelon.factors_count, c.args.echelon.now.factors.ok.0)
 
-pub bounds-kept-position : goal.bounds-kept-position
-bounds-kept-position c = (c.requires.pivots.known c.in-Some.column c.in-Some-pivots.position c.in-Some-pivots.is).0
+pub mul-by-requires-clause-right : goal.mul-by-requires-clause-right
+mul-by-requires-clause-right c =
+    let known : (c.in-Some-index.position < length c.args.echelon.now.left.rows) × IsPivot c.args.field (row_at (kept_rows c.args.rows.now.rows c.args.echelon.now.left.rows) c.in-Some-index.position) (get_or c.args.echelon.now.factors.items c.in-Some-index.position 0) c.cell.inside.column =
+    c.requires.echelon.known c.cell.inside.column c.in-Some-index.position (pivot_read c.args.echelon.now.pivots.items c.cell.inside.column c.index.result.now (Some c.in-Some-index.position) (omega (arith, c.in-Some.ensures.cell.inside, ap (λ (d : Cell). d.column) c.cell.view_is, c.loop-cell.invariant.width, c.requires.width)) c.index.ensures c.in-Some-index.is) in
+    subst (IsElement c.args.field) (get_or_default c.args.echelon.now.factors.items c.in-Some-index.position 0 c.index-factor.result.now (omega (arith, known.0, c.requires.echelon.factors_count)) ∙ sym c.index-factor.ensures) known.1.element
 
-pub take_out-coefficient-requires-clause-numbers : goal.take_out-coefficient-requires-clause-numbers
-take_out-coefficient-requires-clause-numbers c = turn_numbers c.args.field c.modulus-modulus.ensures.field c.args.kept.now c.args.pivots.now c.args.row.now c.loop-column.cells.items c.loop-column.steps.items c.loop-column.sums c.loop-column.from c.loop-column.invariant c.in-Some.column c.in-Some.ensures.column c.next.new.self c.take-value.new.self c.take-value.result c.in-Some.ensures.same c.take-value.ensures.value c.take-value.ensures.rest
+pub kept-requires-clause-seen : goal.kept-requires-clause-seen
+kept-requires-clause-seen c = (c.requires.echelon.known c.cell.inside.column c.in-Some-index.position (pivot_read c.args.echelon.now.pivots.items c.cell.inside.column c.index.result.now (Some c.in-Some-index.position) (omega (arith, c.in-Some.ensures.cell.inside, ap (λ (d : Cell). d.column) c.cell.view_is, c.loop-cell.invariant.width, c.requires.width)) c.index.ensures c.in-Some-index.is)).0
 
-pub loop-column-preserved : goal.loop-column-preserved
-loop-column-preserved c =
-    elim c.if-value-ne0.branch [
-      | then-value-ne0+in-Some-pivots+in_ok-push-in-Some-pivots w ↦
-          rw (w.cells-is, w.steps-is, w.sums-is, w.in_ok-push-in-Some-pivots.ensures.items)
-          (turn_pivot c.args.field c.modulus-modulus.ensures.field c.args.kept.now c.args.pivots.now c.args.row.now c.loop-column.cells.items c.loop-column.steps.items c.loop-column.sums c.loop-column.from c.loop-column.invariant c.in-Some.column c.in-Some.ensures.column c.next.new.self c.take-value.new.self c.take-value.result c.in-Some.ensures.same c.take-value.ensures.value c.take-value.ensures.rest
-          c.requires.kept c.requires.pivots w.in-Some-pivots.position w.index-kept-position.result w.in-Some-pivots.is w.index-kept-position.is w.take_out-coefficient.new.sums w.take_out-coefficient.result w.take_out-coefficient.ensures.sum w.take_out-coefficient.ensures.coefficient w.take_out-coefficient.ensures.width)
-      | then-value-ne0+in-None+in_ok-push-in-None w ↦
-          rw (w.cells-is, w.steps-is, w.sums-is, w.in_ok-push-in-None.ensures.items)
-          (turn_free c.args.field c.modulus-modulus.ensures.field c.args.kept.now c.args.pivots.now c.args.row.now c.loop-column.cells.items c.loop-column.steps.items c.loop-column.sums c.loop-column.from c.loop-column.invariant c.in-Some.column c.in-Some.ensures.column c.next.new.self c.take-value.new.self c.take-value.result c.in-Some.ensures.same c.take-value.ensures.value c.take-value.ensures.rest
-          w.if-value-ne0.true w.in-None.is)
-      | else-value-ne0 w ↦
-          rw (w.cells-is, w.steps-is, w.sums-is)
-          (turn_none c.args.field c.modulus-modulus.ensures.field c.args.kept.now c.args.pivots.now c.args.row.now c.loop-column.cells.items c.loop-column.steps.items c.loop-column.sums c.loop-column.from c.loop-column.invariant c.in-Some.column c.in-Some.ensures.column c.next.new.self c.take-value.new.self c.take-value.result c.in-Some.ensures.same c.take-value.ensures.value c.take-value.ensures.rest
-          w.if-value-ne0.false)
-    ]
+pub kept-requires-clause-inside : goal.kept-requires-clause-inside
+kept-requires-clause-inside c = omega (arith, (c.requires.echelon.known c.cell.inside.column c.in-Some-index.position (pivot_read c.args.echelon.now.pivots.items c.cell.inside.column c.index.result.now (Some c.in-Some-index.position) (omega (arith, c.in-Some.ensures.cell.inside, ap (λ (d : Cell). d.column) c.cell.view_is, c.loop-cell.invariant.width, c.requires.width)) c.index.ensures c.in-Some-index.is)).0, c.requires.echelon.within)
 
-pub returns-clause-remainder : goal.returns-clause-remainder
-returns-clause-remainder c =
-    swept_all c.args.field c.modulus-modulus.ensures.field c.args.kept.now c.args.pivots.now c.args.row.now c.loop-column.cells.items c.loop-column.steps.items c.loop-column.sums c.loop-column.from c.requires.pivots c.in_default.ensures.column c.loop-column.invariant
+pub add_front-requires-clause-elements : goal.add_front-requires-clause-elements
+add_front-requires-clause-elements c =
+    subst (AllElements c.args.field) (kept_at c.args.rows.now.rows c.args.echelon.now.left.rows c.in-Some-index.position ∙ sym c.kept.ensures)
+    (c.requires.echelon.elements c.in-Some-index.position (c.requires.echelon.known c.cell.inside.column c.in-Some-index.position (pivot_read c.args.echelon.now.pivots.items c.cell.inside.column c.index.result.now (Some c.in-Some-index.position) (omega (arith, c.in-Some.ensures.cell.inside, ap (λ (d : Cell). d.column) c.cell.view_is, c.loop-cell.invariant.width, c.requires.width)) c.index.ensures c.in-Some-index.is)).0)
+
+pub add_front-requires-clause-below : goal.add_front-requires-clause-below
+add_front-requires-clause-below c =
+    subst (λ n. AllBelow n c.kept.result.now) (let e : length c.args.echelon.now.pivots.items ≡ length c.take_last.new.self = omega (arith, c.requires.width, c.loop-cell.invariant.width, c.take_last.ensures.width) in e)
+    (subst (AllBelow (length c.args.echelon.now.pivots.items)) (kept_at c.args.rows.now.rows c.args.echelon.now.left.rows c.in-Some-index.position ∙ sym c.kept.ensures)
+    (c.requires.echelon.below c.in-Some-index.position (c.requires.echelon.known c.cell.inside.column c.in-Some-index.position (pivot_read c.args.echelon.now.pivots.items c.cell.inside.column c.index.result.now (Some c.in-Some-index.position) (omega (arith, c.in-Some.ensures.cell.inside, ap (λ (d : Cell). d.column) c.cell.view_is, c.loop-cell.invariant.width, c.requires.width)) c.index.ensures c.in-Some-index.is)).0))
+
+pub loop-cell-preserved : goal.loop-cell-preserved
+loop-cell-preserved c =
+    let known : (c.in-Some-index.position < length c.args.echelon.now.left.rows) × IsPivot c.args.field (row_at (kept_rows c.args.rows.now.rows c.args.echelon.now.left.rows) c.in-Some-index.position) (get_or c.args.echelon.now.factors.items c.in-Some-index.position 0) c.cell.inside.column =
+    c.requires.echelon.known c.cell.inside.column c.in-Some-index.position (pivot_read c.args.echelon.now.pivots.items c.cell.inside.column c.index.result.now (Some c.in-Some-index.position) (omega (arith, c.in-Some.ensures.cell.inside, ap (λ (d : Cell). d.column) c.cell.view_is, c.loop-cell.invariant.width, c.requires.width)) c.index.ensures c.in-Some-index.is) in
+    let factor : c.index-factor.result.now ≡ get_or c.args.echelon.now.factors.items c.in-Some-index.position 0 =
+    c.index-factor.ensures ∙ sym (get_or_default c.args.echelon.now.factors.items c.in-Some-index.position 0 c.index-factor.result.now (omega (arith, known.0, c.requires.echelon.factors_count))) in
+    rw c.in_ok-push-in-Some-index.ensures.items
+    (sweep_pivot c.args.field c.modulus-modulus.ensures.field (kept_rows c.args.rows.now.rows c.args.echelon.now.left.rows) c.args.echelon.now.pivots.items (length c.args.echelon.now.left.rows) c.args.sums.now c.loop-cell.steps.items
+    c.loop-cell.sums c.loop-cell.end c.loop-cell.invariant c.take_last.new.self (record { column = c.cell.inside.column; coefficient = c.cell.inside.coefficient })
+    (subst (λ (d : Cell). IsTaken c.args.field c.loop-cell.sums c.take_last.new.self d) (sym c.cell.view_is) c.in-Some.ensures.cell)
+    c.in-Some-index.position (get_or c.args.echelon.now.factors.items c.in-Some-index.position 0) (pivot_read c.args.echelon.now.pivots.items c.cell.inside.column c.index.result.now (Some c.in-Some-index.position) (omega (arith, c.in-Some.ensures.cell.inside, ap (λ (d : Cell). d.column) c.cell.view_is, c.loop-cell.invariant.width, c.requires.width)) c.index.ensures c.in-Some-index.is) known.0 known.1 (c.requires.echelon.elements c.in-Some-index.position known.0)
+    c.add_front.new.sums c.mul-by.result (c.mul-by.ensures.product ∙ ap (λ n. times c.args.field c.cell.inside.coefficient n) factor)
+    (c.add_front.ensures.value known.1.front known.1.last (c.kept.ensures ∙ sym (kept_at c.args.rows.now.rows c.args.echelon.now.left.rows c.in-Some-index.position) ∙ known.1.parts))
+    c.neg-coefficient.result c.neg-coefficient.ensures.negative (c.add_front.ensures.width ∙ c.take_last.ensures.width))

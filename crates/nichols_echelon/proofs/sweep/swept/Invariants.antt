@@ -1,9 +1,10 @@
-use Rattle.std.proofs.Common.{◌-◌, length}
+use Rattle.std.proofs.Common.{length}
+use Rattle.nichols_echelon.specs.Echelon.{kept_rows}
 use Rattle.nichols_echelon.proofs.Sweeping.{Sweeping}
 use Rattle.nichols_echelon.proofs.sweep.swept.Given as goal
 
-abbrev pub invariant-loop-column : goal.invariant-loop-column
-invariant-loop-column l = Sweeping l.field l.kept l.pivots l.row l.cells.items l.steps.items l.sums l.from
+abbrev pub invariant-loop-cell : goal.invariant-loop-cell
+invariant-loop-cell l = Sweeping l.field (kept_rows l.rows.rows l.echelon.left.rows) l.echelon.pivots.items (length l.echelon.left.rows) l.initial.sums l.steps.items l.sums l.end
 
-abbrev pub decreases-loop-column : goal.decreases-loop-column
-decreases-loop-column l = length l.pivots - l.from
+abbrev pub decreases-loop-cell : goal.decreases-loop-cell
+decreases-loop-cell l = l.end

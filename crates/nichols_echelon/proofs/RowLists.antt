@@ -1,0 +1,93 @@
+-- Rows in one flat list.
+use Rattle.std.proofs.Common.{◌≡◌, ℕ, zero, suc, ◌-◌, ◌<◌, ◌≤◌, List, [], ◌∷◌, ◌++◌, length, get_or, take, drop, refl, ap, ap₂, ◌∙◌, arith, length-drop, take_all}
+use Rattle.std.proofs.lemmas.List.{take-append-le, drop-append-le, drop_all}
+use Rattle.nichols_echelon.specs.Cells.{Cell}
+use Rattle.nichols_echelon.specs.Rows.{RowsValue, rows_of, rows_from, end_from, between, IsStepped}
+
+pub length-rows_from : (s : ℕ) (ends : List ℕ) (cells : List Cell) → length (rows_from s ends cells) ≡ length ends
+unfolding rows_from
+length-rows_from s [] cells = refl
+length-rows_from s (e ∷ ends) cells = ap suc (length-rows_from e ends cells)
+
+pub row_at : (s : ℕ) (ends : List ℕ) (cells : List Cell) (k : ℕ) → k < length ends → get_or (rows_from s ends cells) k [] ≡ between (get_or (s ∷ ends) k 0) (get_or ends k 0) cells
+unfolding rows_from
+row_at s [] cells k h = absurd (omega arith)
+row_at s (e ∷ ends) cells zero h = refl
+row_at s (e ∷ ends) cells (suc k) h = row_at e ends cells k (omega arith)
+
+pub stepped_at : (s : ℕ) (ends : List ℕ) (n k : ℕ) → IsStepped s ends n → k < length ends → (get_or (s ∷ ends) k 0 ≤ get_or ends k 0) × (get_or ends k 0 ≤ n)
+stepped_at s [] n k h i = absurd (omega arith)
+stepped_at s (e ∷ ends) n zero h i = (h.0, first e ends h.1)
+  where
+    first : (a : ℕ) (bs : List ℕ) → IsStepped a bs n → a ≤ n
+    first a [] g = g
+    first a (b ∷ bs) g = let r : b ≤ n = first b bs g.1 in omega (arith, g.0)
+stepped_at s (e ∷ ends) n (suc k) h i = stepped_at e ends n k h.1 (omega arith)
+
+pub stepped_start : (s : ℕ) (ends : List ℕ) (n : ℕ) → IsStepped s ends n → (s ≤ end_from s ends) × (end_from s ends ≤ n)
+unfolding end_from
+stepped_start s [] n h = (omega arith, h)
+stepped_start s (e ∷ ends) n h =
+    let r : (e ≤ end_from e ends) × (end_from e ends ≤ n) = stepped_start e ends n h.1 in
+    (omega (arith, h.0, r.0), r.1)
+
+pub stepped_more : (s : ℕ) (ends : List ℕ) (n m : ℕ) → n ≤ m → IsStepped s ends n → IsStepped s ends m
+stepped_more s [] n m l h = omega (arith, l, h)
+stepped_more s (e ∷ ends) n m l h = (h.0, stepped_more e ends n m l h.1)
+
+pub stepped_push : (s : ℕ) (ends : List ℕ) (n : ℕ) → IsStepped s ends n → IsStepped s (ends ++ n ∷ []) n
+stepped_push s [] n h = (h, omega arith)
+stepped_push s (e ∷ ends) n h = (h.0, stepped_push e ends n h.1)
+
+between_front : (a b : ℕ) (cells more : List Cell) → a ≤ b → b ≤ length cells → between a b (cells ++ more) ≡ between a b cells
+between_front a b cells more l h =
+    ap (take (b - a)) (drop-append-le a cells more (omega arith)) ∙ take-append-le (b - a) (drop a cells) more (omega (arith, length-drop a cells))
+
+pub rows_of_longer : (s : ℕ) (ends : List ℕ) (cells more : List Cell) → IsStepped s ends (length cells) → rows_from s ends (cells ++ more) ≡ rows_from s ends cells
+unfolding rows_from
+rows_of_longer s [] cells more h = refl
+rows_of_longer s (e ∷ ends) cells more h =
+    ap₂ (λ x y. x ∷ y) (between_front s e cells more h.0 (at (stepped_start e ends (length cells) h.1))) (rows_of_longer e ends cells more h.1)
+  where
+    at : (e ≤ end_from e ends) × (end_from e ends ≤ length cells) → e ≤ length cells
+    at r = omega (arith, r.0, r.1)
+
+pub begun_of_longer : (s : ℕ) (ends : List ℕ) (cells more : List Cell) → IsStepped s ends (length cells) → drop (end_from s ends) (cells ++ more) ≡ drop (end_from s ends) cells ++ more
+begun_of_longer s ends cells more h = drop-append-le (end_from s ends) cells more (stepped_start s ends (length cells) h).1
+
+pub rows_of_end : (s : ℕ) (ends : List ℕ) (cells : List Cell) → rows_from s (ends ++ length cells ∷ []) cells ≡ rows_from s ends cells ++ drop (end_from s ends) cells ∷ []
+unfolding rows_from end_from
+rows_of_end s [] cells = ap (λ x. x ∷ []) (take_all (length cells - s) (drop s cells) (omega (arith, length-drop s cells)))
+rows_of_end s (e ∷ ends) cells = ap (λ x. between s e cells ∷ x) (rows_of_end e ends cells)
+
+pub begun_of_end : (s : ℕ) (ends : List ℕ) (cells : List Cell) → drop (end_from s (ends ++ length cells ∷ [])) cells ≡ []
+unfolding end_from
+begun_of_end s [] cells = drop_all (length cells) cells (omega arith)
+begun_of_end s (e ∷ ends) cells = begun_of_end e ends cells
+
+value : List (List Cell) → List Cell → RowsValue
+value rows begun = record { rows = rows; begun = begun }
+
+pub closed : (ends : List ℕ) (cells : List Cell) → rows_of (ends ++ length cells ∷ []) cells ≡ record { rows = rows_from 0 ends cells ++ drop (end_from 0 ends) cells ∷ []; begun = [] }
+unfolding value
+closed ends cells = ap₂ value (rows_of_end 0 ends cells) (begun_of_end 0 ends cells)
+
+-- a row of cells that were put behind an open row with none
+pub closed_row : (ends : List ℕ) (cells more new : List Cell) (v : RowsValue) → IsStepped 0 ends (length cells) → new ≡ cells ++ more → rows_of ends cells ≡ v → v.begun ≡ [] →
+    ◌≡◌ {A = RowsValue} (record { rows = rows_from 0 ends new ++ drop (end_from 0 ends) new ∷ []; begun = [] }) (record { rows = v.rows ++ more ∷ []; begun = [] })
+unfolding value
+closed_row ends cells more new v stepped e view none =
+    ap₂ (λ (rows : List (List Cell)) (row : List Cell). value (rows ++ row ∷ []) [])
+    (ap (rows_from 0 ends) e ∙ rows_of_longer 0 ends cells more stepped ∙ ap (λ (w : RowsValue). w.rows) view)
+    (ap (drop (end_from 0 ends)) e ∙ begun_of_longer 0 ends cells more stepped ∙ ap (λ (w : RowsValue). w.begun ++ more) view ∙ ap (λ (cs : List Cell). cs ++ more) none)
+
+-- bounds of a row whose start is chosen by a test
+pub row_order : (ends : List ℕ) (n k start : ℕ) → start ≡ get_or (0 ∷ ends) k 0 → k < length ends → IsStepped 0 ends n → (start ≤ get_or ends k 0) × (get_or ends k 0 ≤ n)
+row_order ends n k start e h s =
+    let b : (get_or (0 ∷ ends) k 0 ≤ get_or ends k 0) × (get_or ends k 0 ≤ n) = stepped_at 0 ends n k s h in
+    (omega (arith, e, b.0), b.1)
+
+-- where a row begins, by a test
+pub start_at : (ends : List ℕ) (k : ℕ) → 0 < k → get_or ends (k - 1) 0 ≡ get_or (0 ∷ ends) k 0
+start_at ends zero h = absurd (omega arith)
+start_at ends (suc k) h = let e : suc k - 1 ≡ k = omega arith in ap (λ n. get_or ends n 0) e
