@@ -1,52 +1,20 @@
 -- Forms in a table of relations.
-use Rattle.std.proofs.Common.{◌≡◌, ◌≢◌, ℕ, zero, suc, ◌<◌, Bool, true, false, cond, List, [], ◌∷◌, ◌++◌, length, get_or, take, nat_eq, refl, sym, ◌∙◌, ap, ap₂, subst, arith, inl, inr, ◌+◌, append_assoc}
+use Rattle.std.proofs.Common.{◌≡◌, ◌≢◌, ℕ, ◌<◌, Bool, true, false, cond, List, [], ◌∷◌, ◌++◌, length, get_or, take, nat_eq, refl, sym, ◌∙◌, ap, ap₂, ◌+◌, append_assoc}
 use Rattle.std.proofs.Common.{Ok, Err}
 use Rattle.std.specs.Prelude.{if◌then◌else◌}
 use Rattle.std.proofs.lemmas.List.{take_more, append-nil, map-append}
 use Rattle.std.proofs.lemmas.Bool.Decides.{Decides-eqb}
 use Rattle.std.specs.List.Sorted.{IsBinarySearchResult, IsSearchInRange}
-use Rattle.std.specs.Cmp.Lexicographic.{same_text}
-use Rattle.nichols_field.specs.Field.{FieldValue, IsField, IsElement, times}
-use Rattle.nichols_field.proofs.FieldLaws.{times_assoc, times_one, one_is_element}
-use Rattle.nichols_tensor.specs.Members.{IsIn}
-use Rattle.nichols_tensor.specs.Combination.{Term, Combination, AllElements, same_letters, single, scaled, extended}
-use Rattle.nichols_tensor.proofs.Building.{elements-append, elements-scaled}
+use Rattle.nichols_field.specs.Field.{FieldValue, IsElement, times}
+use Rattle.nichols_field.proofs.FieldLaws.{times_one}
+use Rattle.nichols_tensor.specs.Combination.{Term, Combination, single, scaled, extended}
 use Rattle.nichols_tensor.proofs.Linear.{extended-append}
 use Rattle.nichols_tensor.specs.WordOrder.{word_cmp, IsRising}
-use Rattle.nichols_tensor.proofs.Ordered.{before_all}
-use Rattle.nichols_tensor.proofs.Values.{same_itself}
 use Rattle.nichols_braid.specs.Braid.{BraidValue, act, scalar}
 use Rattle.nichols_tensor.specs.Relation.{PlainRelation}
-use Rattle.nichols_block.specs.Forms.{candidates_of, form_in, followed_form, derived_from}
+use Rattle.nichols_braid.specs.Forms.{candidates_of, form_in, followed_form, derived_from}
+use Rattle.nichols_braid.proofs.Forms.{form_elsewhere, form_at, scaled-scaled}
 use Rattle.nichols_block.proofs.Searching.{search_says}
-
--- a word that is no candidate of the table has itself
-pub form_elsewhere : (table : List PlainRelation) (w : List ℕ) → (IsIn w (candidates_of table) → ⊥) → form_in table w ≡ single w
-unfolding form_in IsIn
-form_elsewhere [] w none = refl
-form_elsewhere (r ∷ table) w none = at (same_letters r.candidate w) refl (form_elsewhere table w (λ i. none (inr i)))
-  where
-    at : (b : Bool) → same_letters r.candidate w ≡ b → form_in table w ≡ single w → cond b r.form (form_in table w) ≡ single w
-    at true e rest = absurd (none (inl (sym (same_text r.candidate w (sym e)))))
-    at false e rest = rest
-
-candidate_at : (table : List PlainRelation) (i : ℕ) (d : PlainRelation) → i < length table → IsIn (get_or table i d).candidate (candidates_of table)
-unfolding IsIn
-candidate_at [] i d less = absurd (omega arith)
-candidate_at (r ∷ table) zero d less = inl refl
-candidate_at (r ∷ table) (suc i) d less = inr (candidate_at table i d (omega arith))
-
--- a candidate of the table has the form of its relation
-pub form_at : (table : List PlainRelation) (i : ℕ) (d : PlainRelation) → IsRising (candidates_of table) → i < length table → form_in table (get_or table i d).candidate ≡ (get_or table i d).form
-unfolding form_in
-form_at [] i d rising less = absurd (omega arith)
-form_at (r ∷ table) zero d rising less = ap (λ b. cond b r.form (form_in table r.candidate)) (same_itself r.candidate)
-form_at (r ∷ table) (suc i) d rising less = at (same_letters r.candidate (get_or table i d).candidate) refl (form_at table i d rising.1 (omega arith))
-  where
-    at : (b : Bool) → same_letters r.candidate (get_or table i d).candidate ≡ b → form_in table (get_or table i d).candidate ≡ (get_or table i d).form →
-        cond b r.form (form_in table (get_or table i d).candidate) ≡ (get_or table i d).form
-    at true e rest = absurd (before_all r.candidate (candidates_of table) rising.0 rising.1 (subst (λ w. IsIn w (candidates_of table)) (sym (same_text r.candidate (get_or table i d).candidate (sym e))) (candidate_at table i d (omega arith))))
-    at false e rest = rest
 
 -- the form at the place that a search found
 pub form_found : (table : List PlainRelation) (w : List ℕ) (i : ℕ) (r : PlainRelation) → IsRising (candidates_of table) → IsSearchInRange (Ok i) (length table) → IsBinarySearchResult (λ (s : PlainRelation). word_cmp s.candidate w) table (Ok i) →
@@ -64,11 +32,6 @@ form_missed table w i rising within found = sym (form_elsewhere table w (search_
     empty = record { candidate = []; form = [] }
 
 -- ---- multiples of forms, put behind other terms
-
--- a multiple of a multiple
-scaled-scaled : (k : FieldValue) (b c : ℕ) (f : Combination) → scaled k b (scaled k c f) ≡ scaled k (times k b c) f
-scaled-scaled k b c [] = refl
-scaled-scaled k b c (t ∷ f) = ap₂ (λ n (g : Combination). record { word = t.word; coefficient = n } ∷ g) (sym (times_assoc k b c t.coefficient)) (scaled-scaled k b c f)
 
 -- a form with a letter behind, with one more of its terms
 followed_more : (k : FieldValue) (by : ℕ) (table : List PlainRelation) (f : Combination) (c i : ℕ) (t : Term) → i < length f → t ≡ get_or f i t →
@@ -126,16 +89,3 @@ pub derived_by_others : (braid : BraidValue) (k : FieldValue) (table : List Plai
     after ≡ middle ++ scaled k by (followed_form k table form c) → after ≡ before ++ derived_from braid table u form a b
 derived_by_others braid k table u form before middle after a b by c k_is other by_is c_is same =
     derived_put braid k table u form before [] middle after a b by c k_is (sym (chosen_other a b u other)) by_is c_is (same ∙ sym (append-nil before))
-
-elements_chosen : (k : FieldValue) → IsField k → (b : Bool) (u : List ℕ) → AllElements k (if b then single u else [])
-elements_chosen k is true u = (one_is_element k is, tt)
-elements_chosen k is false u = tt
-
--- its coefficients are elements of the field
-pub derived_from_elements : (braid : BraidValue) → IsField braid.field → (table : List PlainRelation) (u : List ℕ) (form : Combination) (a b : ℕ) → AllElements braid.field (derived_from braid table u form a b)
-unfolding derived_from
-derived_from_elements braid is table u form a b =
-    let k : FieldValue = braid.field in
-    let own : Combination = if nat_eq a b then single u else [] in
-    let later : Combination = scaled k (scalar braid a b) (followed_form k table form (act braid a b)) in
-    elements-append k own later (elements_chosen k is (nat_eq a b) u) (elements-scaled k is (scalar braid a b) (followed_form k table form (act braid a b)))

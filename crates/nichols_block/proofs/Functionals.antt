@@ -1,13 +1,12 @@
 -- The entries of the rows of words tell which combinations of candidates are zero in the algebra.
 use Rattle.std.proofs.Common.{◌≡◌, ℕ, suc, ◌+◌, ◌<◌, ◌≤◌, ◌==◌, Bool, true, false, cond, List, [], ◌∷◌, length, map, refl, sym, ◌∙◌, ap, ap₂, arith, inl, inr, eq-eqb}
 use Rattle.std.specs.Prelude.{if◌then◌else◌}
-use Rattle.std.specs.List.{AllByRecursion}
+use Rattle.std.specs.List.{AllByRecursion, Contains}
 use Rattle.std.specs.Cmp.Lexicographic.{same_text, other_text}
 use Rattle.std.proofs.lemmas.Bool.{ne_eqb}
 use Rattle.nichols_field.specs.Field.{FieldValue, IsField, IsElement, plus, times}
 use Rattle.nichols_field.proofs.FieldLaws.{plus_zero, times_zero, times_one, zero_is_element, plus_is_element}
 use Rattle.nichols_field.proofs.FieldAlgebra.{zero_plus, times_chosen}
-use Rattle.nichols_tensor.specs.Members.{IsIn}
 use Rattle.nichols_tensor.specs.Combination.{Combination, value_at, IsZero, AllElements, AllAmong, same_letters, single, extended, words_of}
 use Rattle.nichols_tensor.specs.Positions.{word_at}
 use Rattle.nichols_tensor.specs.Words.{up_to, IsWordOver}
@@ -25,7 +24,7 @@ use Rattle.nichols_braid.specs.Kernel.{is_killed, IsKilled}
 use Rattle.nichols_braid.specs.Least.{basis, candidates}
 use Rattle.nichols_braid.specs.LinearTest.{IsLinearTest}
 use Rattle.nichols_braid.specs.LeastLaws.{IsNormalForm}
-use Rattle.nichols_braid.proofs.BraidLaws.{killed_is_linear}
+use Rattle.nichols_braid.proofs.BraidLaws.{killed_is_linear, killed_is_ideal_from_right}
 use Rattle.nichols_braid.proofs.Killed.{is_killed_sound, is_killed_complete}
 use Rattle.nichols_braid.proofs.Maps.{same_weight_on, weight-plus, extended_same, everywhere}
 use Rattle.nichols_braid.proofs.Congruences.{AreCongruent, congruent_sym, congruent_left, passes_too, zero_passes}
@@ -35,11 +34,12 @@ use Rattle.nichols_rows.proofs.Rows.{AreFunctionals}
 use Rattle.nichols_echelon.specs.Cells.{entry}
 use Rattle.nichols_echelon.proofs.Entries.{entry-nil, entry-append, entry_is_element}
 use Rattle.nichols_block.proofs.Lists.{all_mapped}
-use Rattle.nichols_block.specs.Rule.{derived_form, derived_forms}
+use Rattle.nichols_braid.specs.Forms.{derived_form}
+use Rattle.nichols_block.specs.Rule.{derived_forms}
 use Rattle.nichols_block.specs.Rows.{place_in, form_cells, row_cells}
-use Rattle.nichols_block.proofs.Derived.{congruent_extended, among-extended}
+use Rattle.nichols_braid.proofs.Forms.{congruent_extended, among-extended}
 use Rattle.nichols_block.proofs.RowShapes.{place_within}
-use Rattle.nichols_block.proofs.RuleOf.{derived_form_is_normal}
+use Rattle.nichols_braid.proofs.FormsOfDerivatives.{derived_form_is_normal}
 
 -- ---- weights
 
@@ -67,7 +67,7 @@ mark_before : (ws : List (List ℕ)) (offset column : ℕ) (v : List ℕ) → co
 mark_before ws offset column v less = ap (λ b. cond b 1 0) (ne_eqb (offset + place_in ws v) column (λ e. absurd (omega arith)))
 
 -- at the column of a word the weight is the value there
-same_mark : (ws : List (List ℕ)) (offset : ℕ) (v w : List ℕ) → IsIn v ws → IsIn w ws → ((offset + place_in ws v) == (offset + place_in ws w)) ≡ same_letters v w
+same_mark : (ws : List (List ℕ)) (offset : ℕ) (v w : List ℕ) → Contains ws v → Contains ws w → ((offset + place_in ws v) == (offset + place_in ws w)) ≡ same_letters v w
 same_mark ws offset v w i j = at (same_letters v w) refl
   where
     at : (b : Bool) → same_letters v w ≡ b → ((offset + place_in ws v) == (offset + place_in ws w)) ≡ b
@@ -78,7 +78,7 @@ same_mark ws offset v w i j = at (same_letters v w) refl
         let places : place_in ws v ≡ place_in ws w = omega arith in
         other_text v w (sym e) (sym (place_within ws v i).1 ∙ ap (word_at ws) places ∙ (place_within ws w j).1))
 
-weight_at : (k : FieldValue) → IsField k → (ws : List (List ℕ)) (offset : ℕ) (f : Combination) (w : List ℕ) → AllElements k f → AllAmong f ws → IsIn w ws → weight k (mark ws offset (offset + place_in ws w)) f ≡ value_at k f w
+weight_at : (k : FieldValue) → IsField k → (ws : List (List ℕ)) (offset : ℕ) (f : Combination) (w : List ℕ) → AllElements k f → AllAmong f ws → Contains ws w → weight k (mark ws offset (offset + place_in ws w)) f ≡ value_at k f w
 unfolding weight AllAmong
 weight_at k is ws offset [] w e among i = refl
 weight_at k is ws offset (t ∷ f) w e among i =
@@ -111,12 +111,12 @@ total_of_zeros k is ws offset (f ∷ forms) column h =
     ap₂ (plus k) (weightless k is (mark ws offset column) f h.0) (total_of_zeros k is ws (offset + length ws) forms column h.1) ∙ plus_zero k 0 (zero_is_element k is)
 
 -- a combination of some words is zero where its value is 0 at each of them
-zero_on : (k : FieldValue) → IsField k → (ws : List (List ℕ)) (f : Combination) → AllAmong f ws → ((w : List ℕ) → IsIn w ws → value_at k f w ≡ 0) → IsZero k f
+zero_on : (k : FieldValue) → IsField k → (ws : List (List ℕ)) (f : Combination) → AllAmong f ws → ((w : List ℕ) → Contains ws w → value_at k f w ≡ 0) → IsZero k f
 unfolding AllAmong
 zero_on k is ws f among h w =
     elim (is_in_or_not w ws) [
       | inl i ↦ h w i
-      | inr none ↦ zero_at_others k is f w (λ i. none (all_at (λ v. IsIn v ws) (words_of f) w (all_of_words (λ v. IsIn v ws) f among) i))
+      | inr none ↦ zero_at_others k is f w (λ i. none (all_at (λ v. Contains ws v) (words_of f) w (all_of_words (λ v. Contains ws v) f among) i))
     ]
 
 -- and where it is 0 at every column each form is zero
@@ -171,7 +171,7 @@ row_number braid m column w = entry braid.field (row_cells (basis is_killed brai
 
 -- the sum of the forms of the derivatives of a combination of candidates is the form of its derivative
 pub summed_form : (braid : BraidValue) → IsBraid braid → (m a : ℕ) → IsLetter braid a → (f : Combination) → AllAmong f (candidates is_killed braid (suc m)) →
-    AllAmong (extended braid.field (λ w. derived_form braid (suc m) w a) f) (basis is_killed braid m) × AreCongruent braid.field (is_killed braid m) (derived braid a f) (extended braid.field (λ w. derived_form braid (suc m) w a) f)
+    AllAmong (extended braid.field (λ w. derived_form is_killed braid (suc m) w a) f) (basis is_killed braid m) × AreCongruent braid.field (is_killed braid m) (derived braid a f) (extended braid.field (λ w. derived_form is_killed braid (suc m) w a) f)
 unfolding AllAmong
 summed_form braid is m a letter f among = (
   among-extended braid.field form f (basis is_killed braid m) (all_among f among),
@@ -181,10 +181,10 @@ summed_form braid is m a letter f among = (
 )
   where
     form : List ℕ → Combination
-    form w = derived_form braid (suc m) w a
+    form w = derived_form is_killed braid (suc m) w a
 
-    normal : (w : List ℕ) → IsIn w (candidates is_killed braid (suc m)) → IsNormalForm is_killed braid m (derived braid a (single w)) (form w)
-    normal w i = let own : (length w ≡ suc m) × IsWordOver braid.letters w = from_candidates is_killed braid (suc m) w i in derived_form_is_normal braid is m w a own.0 own.1 letter
+    normal : (w : List ℕ) → Contains (candidates is_killed braid (suc m)) w → IsNormalForm is_killed braid m (derived braid a (single w)) (form w)
+    normal w i = let own : (length w ≡ suc m) × IsWordOver braid.letters w = from_candidates is_killed braid (suc m) w i in derived_form_is_normal is_killed braid is (killed_is_ideal_from_right braid is) m w a own.0 own.1 letter
 
     all_among : (f : Combination) → AllAmong f (candidates is_killed braid (suc m)) → AllByRecursion (λ t. AllAmong (form t.word) (basis is_killed braid m)) f
     all_among [] h = tt
@@ -215,23 +215,23 @@ rows_tell braid is m = record {
     l = killed_is_linear braid is m
 
     summed : Combination → ℕ → Combination
-    summed f a = extended k (λ w. derived_form braid (suc m) w a) f
+    summed f a = extended k (λ w. derived_form is_killed braid (suc m) w a) f
 
     sums : Combination → List Combination
     sums f = map (summed f) (up_to braid.letters)
 
-    all_elements : (f : Combination) → AllAmong f (candidates is_killed braid (suc m)) → AllByRecursion (λ t. AllByRecursion (λ a. AllElements k (derived_form braid (suc m) t.word a)) (up_to braid.letters)) f
+    all_elements : (f : Combination) → AllAmong f (candidates is_killed braid (suc m)) → AllByRecursion (λ t. AllByRecursion (λ a. AllElements k (derived_form is_killed braid (suc m) t.word a)) (up_to braid.letters)) f
     all_elements [] h = tt
     all_elements (t ∷ f) h = (
-      all_of_entries (λ a. AllElements k (derived_form braid (suc m) t.word a)) (up_to braid.letters)
+      all_of_entries (λ a. AllElements k (derived_form is_killed braid (suc m) t.word a)) (up_to braid.letters)
           (λ a i.
           let own : (length t.word ≡ suc m) × IsWordOver braid.letters t.word = from_candidates is_killed braid (suc m) t.word h.0 in
-          (derived_form_is_normal braid is m t.word a own.0 own.1 (from_up_to braid.letters a i)).elements),
+          (derived_form_is_normal is_killed braid is (killed_is_ideal_from_right braid is) m t.word a own.0 own.1 (from_up_to braid.letters a i)).elements),
       all_elements f h.1,
     )
 
     sum : (f : Combination) → AllAmong f (candidates is_killed braid (suc m)) → (c : ℕ) → weight k (row_number braid m c) f ≡ total k ws 0 (sums f) c
-    sum f among c = sum_of_rows k is.field ws 0 c (derived_form braid (suc m)) (up_to braid.letters) f (all_elements f among)
+    sum f among c = sum_of_rows k is.field ws 0 c (derived_form is_killed braid (suc m)) (up_to braid.letters) f (all_elements f among)
 
     zero_of_killed : (f : Combination) → AllAmong f (candidates is_killed braid (suc m)) → is_killed braid (suc m) f ≡ true → (a : ℕ) → IsLetter braid a → IsZero k (summed f a)
     zero_of_killed f among h a letter =
@@ -244,7 +244,7 @@ rows_tell braid is m = record {
     zeros : (f : Combination) → AllAmong f (candidates is_killed braid (suc m)) → ((c : ℕ) → weight k (row_number braid m c) f ≡ 0) → AllByRecursion (λ g. IsZero k g) (sums f)
     zeros f among none =
         zeros_of_total k is.field ws 0 (sums f)
-        (all_by_letter (λ g. AllElements k g × AllAmong g ws) (summed f) braid.letters (λ a letter. (elements-extended k is.field (λ w. derived_form braid (suc m) w a) f, (summed_form braid is m a letter f among).0)))
+        (all_by_letter (λ g. AllElements k g × AllAmong g ws) (summed f) braid.letters (λ a letter. (elements-extended k is.field (λ w. derived_form is_killed braid (suc m) w a) f, (summed_form braid is m a letter f among).0)))
         (λ c. sym (sum f among c) ∙ none c)
 
     killed_of_zero : (f : Combination) → AllAmong f (candidates is_killed braid (suc m)) → ((c : ℕ) → weight k (row_number braid m c) f ≡ 0) → (a : ℕ) → IsLetter braid a → IsKilled braid m (derived braid a f)

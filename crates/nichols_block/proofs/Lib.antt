@@ -1,7 +1,6 @@
 pub mod Lists
 pub mod Searching
 pub mod FormsOf
-pub mod Derived
 pub mod RuleOf
 pub mod RowShapes
 pub mod Popped

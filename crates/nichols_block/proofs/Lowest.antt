@@ -11,7 +11,8 @@ use Rattle.nichols_braid.specs.Kernel.{is_killed}
 use Rattle.nichols_braid.specs.Least.{basis, relations}
 use Rattle.nichols_tensor.specs.Relation.{PlainRelation}
 use Rattle.nichols_braid.proofs.FirstDegree.{basis_first, relations_first}
-use Rattle.nichols_block.specs.Rule.{PlainRule, derived_form, derived_forms, rule_of, IsRuleOf}
+use Rattle.nichols_braid.specs.Forms.{derived_form}
+use Rattle.nichols_block.specs.Rule.{PlainRule, derived_forms, rule_of, IsRuleOf}
 use Rattle.nichols_block.specs.Levels.{LevelsValue, rules_below, AreLevels}
 use Rattle.nichols_block.proofs.RuleOf.{rule_with, same_rule}
 
@@ -20,7 +21,7 @@ use Rattle.nichols_block.proofs.RuleOf.{rule_with, same_rule}
 abbrev nothing : ℕ → Combination
 nothing a = []
 
-derived_nothing : (braid : BraidValue) (w : List ℕ) (xs : List ℕ) → map (derived_form braid 0 w) xs ≡ map nothing xs
+derived_nothing : (braid : BraidValue) (w : List ℕ) (xs : List ℕ) → map (derived_form is_killed braid 0 w) xs ≡ map nothing xs
 unfolding derived_form
 derived_nothing braid w [] = refl
 derived_nothing braid w (x ∷ xs) = ap (λ fs. nothing x ∷ fs) (derived_nothing braid w xs)
@@ -29,7 +30,7 @@ pub lowest_is_rule : (braid : BraidValue) → IsBraid braid → (us : List (List
     IsRuleOf braid 0 (record { degree = 0; basis = us; derivs = ds; table = ts })
 unfolding rule_of derived_forms rule_with
 lowest_is_rule braid is us ds own ts n u d o letters t =
-    let forms : own ≡ map (derived_form braid 0 []) (up_to braid.letters) = o ∙ ap (λ l. map nothing (up_to l)) letters ∙ sym (derived_nothing braid [] (up_to braid.letters)) in
+    let forms : own ≡ map (derived_form is_killed braid 0 []) (up_to braid.letters) = o ∙ ap (λ l. map nothing (up_to l)) letters ∙ sym (derived_nothing braid [] (up_to braid.letters)) in
     same_rule 0 0 us (basis is_killed braid 0) ds (map (derived_forms braid 0) (basis is_killed braid 0)) ts (relations is_killed braid 0) refl (u ∙ sym (basis_first braid is.field))
     (d ∙ ap (λ fs. fs ∷ []) forms ∙ ap (map (derived_forms braid 0)) (sym (basis_first braid is.field))) (t ∙ sym (relations_first braid is.field))
 

@@ -3,8 +3,8 @@ use Rattle.std.proofs.Common.{◌≡◌, ℕ, ◌+◌, ◌<◌, ◌≤◌, List,
 use Rattle.std.proofs.lemmas.List.{take_more, reverse-append, length-take-le}
 use Rattle.nichols_echelon.specs.declared.rows.Place.{Place}
 use Rattle.nichols_echelon.specs.declared.rows.Place.TheVariants.{Independent, Depends}
-use Rattle.nichols_rows.specs.Reading.{independent_in}
-use Rattle.nichols_rows.proofs.ReadingOf.{independent_in-push}
+use Rattle.nichols_rows.specs.Places.{independent_in}
+use Rattle.nichols_rows.proofs.LoopsOverPlaces.{independent_in-push}
 
 popped_more : {X : Type 0} (left rest : List X) (x : X) (ps : List Place) (i : ℕ) (p : Place) → left ≡ rest ++ x ∷ [] → i ≡ length rest → length left ≤ length ps → p ≡ get_or ps i p →
     independent_in left (take (length left) ps) ≡ independent_in rest (take (length rest) ps) ++ independent_in (x ∷ []) (p ∷ [])

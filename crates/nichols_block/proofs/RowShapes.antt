@@ -1,36 +1,38 @@
 -- The rows of words: places, and that the cells are a row.
 use Rattle.std.proofs.Common.{◌≡◌, ◌≢◌, ℕ, zero, suc, ◌+◌, ◌*◌, ◌<◌, ◌≤◌, Bool, true, false, cond, List, [], ◌∷◌, ◌++◌, length, get_or, take, refl, sym, ◌∙◌, ap, ap₂, subst, arith, append_assoc, Ok, Err, inl, inr}
-use Rattle.std.specs.List.{AllByRecursion}
+use Rattle.std.specs.List.{AllByRecursion, Contains}
 use Rattle.std.specs.List.Sorted.{IsBinarySearchResult, IsSearchInRange}
 use Rattle.std.specs.Cmp.Lexicographic.{same_text, other_text}
 use Rattle.std.specs.declared.cmp.Ordering.TheVariants.{Less}
 use Rattle.std.proofs.lemmas.Bool.{cases_lt}
 use Rattle.std.proofs.lemmas.List.{map-id, take_more, append-nil, length-take-le}
-use Rattle.nichols_tensor.specs.Members.{IsIn}
 use Rattle.nichols_tensor.specs.Combination.{Term, Combination, AllAmong, AllNonzero, words_of, same_letters}
 use Rattle.nichols_tensor.specs.Positions.{word_at}
+use Rattle.nichols_tensor.proofs.Entries.{contains_cases, contains_none}
 use Rattle.nichols_tensor.specs.WordOrder.{word_cmp, IsRising}
 use Rattle.nichols_tensor.specs.WordOrder.{IsBelowFirst as IsWordBelowFirst}
 use Rattle.nichols_tensor.proofs.Order.{less_is_other}
 use Rattle.nichols_tensor.proofs.Rising.{words_at_rise, position_below}
 use Rattle.nichols_echelon.specs.Cells.{Cell, IsRow, IsBelowFirst, columns_of, AllBelow}
 use Rattle.nichols_echelon.specs.Cells.{IsRising as AreRising, AllNonzero as AllCellsNonzero}
-use Rattle.nichols_echelon.proofs.Shapes.{all_append}
+use Rattle.nichols_tensor.proofs.Over.{all-append}
 use Rattle.nichols_block.specs.Rows.{place_in, form_cells, row_cells, IsFormOver}
 use Rattle.nichols_block.proofs.Searching.{search_says}
 
 -- ---- places
 
-pub place_within : (ws : List (List ℕ)) (w : List ℕ) → IsIn w ws → (place_in ws w < length ws) × (word_at ws (place_in ws w) ≡ w)
-unfolding IsIn
-place_within [] w i = absurd i
+pub place_within : (ws : List (List ℕ)) (w : List ℕ) → Contains ws w → (place_in ws w < length ws) × (word_at ws (place_in ws w) ≡ w)
+place_within [] w i = absurd (contains_none w i)
 place_within (v ∷ ws) w i = at (same_letters v w) refl i (place_within ws w)
   where
-    at : (b : Bool) → same_letters v w ≡ b → IsIn w (v ∷ ws) → (IsIn w ws → (place_in ws w < length ws) × (word_at ws (place_in ws w) ≡ w)) →
+    at : (b : Bool) → same_letters v w ≡ b → Contains (v ∷ ws) w → (Contains ws w → (place_in ws w < length ws) × (word_at ws (place_in ws w) ≡ w)) →
         (cond b 0 (suc (place_in ws w)) < suc (length ws)) × (word_at (v ∷ ws) (cond b 0 (suc (place_in ws w))) ≡ w)
     at true e h rest = (omega arith, same_text v w (sym e))
-    at false e (inl same) rest = absurd (other_text v w (sym e) (sym same))
-    at false e (inr j) rest = let r : (place_in ws w < length ws) × (word_at ws (place_in ws w) ≡ w) = rest j in (omega (arith, r.0), r.1)
+    at false e h rest =
+        elim (contains_cases v ws w h) [
+          | inl same ↦ absurd (other_text v w (sym e) (sym same))
+          | inr j ↦ let r : (place_in ws w < length ws) × (word_at ws (place_in ws w) ≡ w) = rest j in (omega (arith, r.0), r.1)
+        ]
 
 -- of a list that rises a word has one place
 pub one_place : (ws : List (List ℕ)) → IsRising ws → (i j : ℕ) → i < length ws → j < length ws → word_at ws i ≡ word_at ws j → i ≡ j
@@ -45,16 +47,16 @@ one_place ws rising i j within_i within_j same =
     ]
 
 -- the place that a search found
-pub place_found : (ws : List (List ℕ)) → IsRising ws → (w : List ℕ) → IsIn w ws → (i : ℕ) → IsSearchInRange (Ok i) (length ws) → IsBinarySearchResult (λ (v : List ℕ). word_cmp v w) ws (Ok i) → i ≡ place_in ws w
+pub place_found : (ws : List (List ℕ)) → IsRising ws → (w : List ℕ) → Contains ws w → (i : ℕ) → IsSearchInRange (Ok i) (length ws) → IsBinarySearchResult (λ (v : List ℕ). word_cmp v w) ws (Ok i) → i ≡ place_in ws w
 place_found ws rising w there i within found =
     let r : (place_in ws w < length ws) × (word_at ws (place_in ws w) ≡ w) = place_within ws w there in
     one_place ws rising i (place_in ws w) within r.0 (search_says (λ (v : List ℕ). v) ws w (Ok i) (subst IsRising (sym (map-id ws)) rising) within found [] ∙ sym r.1)
 
-pub place_there : (ws : List (List ℕ)) → IsRising ws → (w : List ℕ) → IsIn w ws → (i : ℕ) → IsSearchInRange (Err i) (length ws) → IsBinarySearchResult (λ (v : List ℕ). word_cmp v w) ws (Err i) → ⊥
+pub place_there : (ws : List (List ℕ)) → IsRising ws → (w : List ℕ) → Contains ws w → (i : ℕ) → IsSearchInRange (Err i) (length ws) → IsBinarySearchResult (λ (v : List ℕ). word_cmp v w) ws (Err i) → ⊥
 place_there ws rising w there i within found =
-    search_says (λ (v : List ℕ). v) ws w (Err i) (subst IsRising (sym (map-id ws)) rising) within found [] (subst (IsIn w) (sym (map-id ws)) there)
+    search_says (λ (v : List ℕ). v) ws w (Err i) (subst IsRising (sym (map-id ws)) rising) within found [] (subst (λ ys. Contains ys w) (sym (map-id ws)) there)
 
-pub places_rise : (ws : List (List ℕ)) → IsRising ws → (v w : List ℕ) → IsIn v ws → IsIn w ws → word_cmp v w ≡ Less → place_in ws v < place_in ws w
+pub places_rise : (ws : List (List ℕ)) → IsRising ws → (v w : List ℕ) → Contains ws v → Contains ws w → word_cmp v w ≡ Less → place_in ws v < place_in ws w
 places_rise ws rising v w i j less =
     let p : (place_in ws v < length ws) × (word_at ws (place_in ws v) ≡ v) = place_within ws v i in
     let q : (place_in ws w < length ws) × (word_at ws (place_in ws w) ≡ w) = place_within ws w j in
@@ -62,10 +64,10 @@ places_rise ws rising v w i j less =
 
 -- ---- one form
 
-pub term_among : (f : Combination) (ws : List (List ℕ)) (i : ℕ) (t : Term) → AllAmong f ws → i < length f → t ≡ get_or f i t → IsIn t.word ws
+pub term_among : (f : Combination) (ws : List (List ℕ)) (i : ℕ) (t : Term) → AllAmong f ws → i < length f → t ≡ get_or f i t → Contains ws t.word
 unfolding AllAmong
 term_among [] ws i t h less at = absurd (omega arith)
-term_among (u ∷ f) ws zero t h less at = subst (λ (s : Term). IsIn s.word ws) (sym at) h.0
+term_among (u ∷ f) ws zero t h less at = subst (λ (s : Term). Contains ws s.word) (sym at) h.0
 term_among (u ∷ f) ws (suc i) t h less at = term_among f ws i t h.1 (omega arith) at
 
 form_cells_rise : (ws : List (List ℕ)) → IsRising ws → (offset : ℕ) (f : Combination) → IsRising (words_of f) → AllAmong f ws → AreRising (columns_of (form_cells ws offset f))
@@ -103,7 +105,7 @@ form_cells_from ws offset (t ∷ f) = (omega arith, form_cells_from ws offset f)
 row_cells_from : (ws : List (List ℕ)) (offset : ℕ) (forms : List Combination) → AllFrom offset (row_cells ws offset forms)
 row_cells_from ws offset [] = tt
 row_cells_from ws offset (f ∷ forms) =
-    all_append (λ (c : Cell). offset ≤ c.column) (form_cells ws offset f) (row_cells ws (offset + length ws) forms) (form_cells_from ws offset f)
+    all-append (λ (c : Cell). offset ≤ c.column) (form_cells ws offset f) (row_cells ws (offset + length ws) forms) (form_cells_from ws offset f)
     (from_less offset (offset + length ws) (omega arith) (row_cells ws (offset + length ws) forms) (row_cells_from ws (offset + length ws) forms))
 
 rise_joined : (xs ys : List Cell) (bound : ℕ) → AreRising (columns_of xs) → AllBelow bound xs → AreRising (columns_of ys) → AllFrom bound ys → AreRising (columns_of (xs ++ ys))
@@ -124,7 +126,7 @@ row_cells_rise ws rising offset (f ∷ forms) h =
 row_cells_nonzero : (ws : List (List ℕ)) (offset : ℕ) (forms : List Combination) → AllByRecursion (IsFormOver ws) forms → AllCellsNonzero (row_cells ws offset forms)
 row_cells_nonzero ws offset [] h = tt
 row_cells_nonzero ws offset (f ∷ forms) h =
-    all_append (λ (c : Cell). c.coefficient ≢ 0) (form_cells ws offset f) (row_cells ws (offset + length ws) forms) (form_cells_nonzero ws offset f h.0.ordered.nonzero) (row_cells_nonzero ws (offset + length ws) forms h.1)
+    all-append (λ (c : Cell). c.coefficient ≢ 0) (form_cells ws offset f) (row_cells ws (offset + length ws) forms) (form_cells_nonzero ws offset f h.0.ordered.nonzero) (row_cells_nonzero ws (offset + length ws) forms h.1)
 
 -- the cells of forms in order are a row
 pub cells_are_row : (ws : List (List ℕ)) → IsRising ws → (forms : List Combination) → AllByRecursion (IsFormOver ws) forms → IsRow (row_cells ws 0 forms)

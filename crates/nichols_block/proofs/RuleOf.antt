@@ -1,33 +1,33 @@
 -- What the rule of a degree says, part by part, and what holds of its lists.
-use Rattle.std.proofs.Common.{◌≡◌, ℕ, zero, suc, ◌+◌, ◌<◌, List, [], ◌∷◌, ◌++◌, length, map, get_or, take, sym, ◌≤◌, inl, inr, ◌∙◌, ap, ap₂, subst, arith, append_assoc, not, true}
-use Rattle.std.specs.List.{filter, AllByRecursion}
+use Rattle.std.proofs.Common.{◌≡◌, ℕ, zero, suc, ◌+◌, ◌<◌, List, [], ◌∷◌, ◌++◌, length, map, get_or, take, sym, ◌≤◌, ◌∙◌, ap, ap₂, subst, arith, append_assoc, not, true}
+use Rattle.std.specs.List.{filter, AllByRecursion, Contains}
 use Rattle.std.proofs.lemmas.List.{map-append, get_or-map, length-map, take_more, take_all, append-nil}
 use Rattle.std.proofs.lemmas.Grind.{flat_map-append}
-use Rattle.std.proofs.lemmas.Simd.{map-map}
+use Rattle.nichols_braid.proofs.Lists.{map-map}
 use Rattle.std.proofs.Math.Seq.{get_or-append_seam}
-use Rattle.nichols_tensor.specs.Members.{IsIn}
+use Rattle.nichols_tensor.specs.declared.TheConstants.{WORD_LIMIT}
 use Rattle.nichols_tensor.specs.Combination.{Combination, AllElements, AllAmong, single}
 use Rattle.nichols_tensor.specs.Words.{up_to, IsWordOver, with_letters}
 use Rattle.nichols_tensor.specs.WordOrder.{IsRising}
-use Rattle.nichols_words.specs.Word.{word_limit}
 use Rattle.nichols_tensor.proofs.Entries.{from_filter}
 use Rattle.nichols_braid.specs.Braid.{BraidValue, IsBraid, IsLetter}
-use Rattle.nichols_braid.specs.Derivation.{derived}
 use Rattle.nichols_braid.specs.Kernel.{is_killed}
 use Rattle.nichols_braid.specs.Least.{is_least, basis, candidates, relations}
 use Rattle.nichols_tensor.specs.Relation.{PlainRelation}
 use Rattle.nichols_tensor.proofs.Tests.{all_of_entries}
 use Rattle.nichols_tensor.proofs.Letters.{up_to_length}
-use Rattle.nichols_braid.specs.LeastLaws.{IsNormalForm}
-use Rattle.nichols_braid.proofs.BraidLaws.{killed_is_linear}
+use Rattle.nichols_braid.proofs.BraidLaws.{killed_is_linear, killed_is_ideal_from_right}
 use Rattle.nichols_braid.proofs.Search.{up_to-next, up_to-prefix}
-use Rattle.nichols_braid.proofs.Degrees.{derived_degree, derived_over}
 use Rattle.nichols_braid.proofs.Reduction.{from_basis}
 use Rattle.nichols_braid.proofs.NormalForms.{form_is_normal}
 use Rattle.nichols_braid.proofs.Candidates.{relations_are, relation_at, from_candidates, candidates_next}
 use Rattle.nichols_braid.proofs.LeastLaws.{relations_rise}
-use Rattle.nichols_block.specs.Rule.{PlainRule, derived_form, derived_forms, rule_of, IsRuleOf}
-use Rattle.nichols_block.specs.Forms.{IsTable, AllShort}
+use Rattle.nichols_braid.specs.Forms.{derived_form}
+use Rattle.nichols_braid.proofs.FormsOfDerivatives.{derived_form_is_normal, derivatives_of_candidates}
+use Rattle.nichols_block.specs.Rule.{PlainRule, derived_forms, rule_of, IsRuleOf}
+use Rattle.nichols_braid.specs.Forms.{IsTable, derived_from}
+use Rattle.nichols_tensor.specs.InOrder.{in_order}
+use Rattle.nichols_block.specs.Short.{AllShort}
 
 -- ---- the parts
 
@@ -72,37 +72,38 @@ pushed_letter f a out more x before here pushed =
 
 pub forms_length : (braid : BraidValue) (m : ℕ) (u : List ℕ) (forms : List Combination) → forms ≡ derived_forms braid m u → length forms ≡ braid.letters
 unfolding derived_forms
-forms_length braid m u forms e = ap length e ∙ length-map (up_to braid.letters) (derived_form braid m u) ∙ up_to_length braid.letters
+forms_length braid m u forms e = ap length e ∙ length-map (up_to braid.letters) (derived_form is_killed braid m u) ∙ up_to_length braid.letters
 
-pub form_here : (braid : BraidValue) (m : ℕ) (u : List ℕ) (forms : List Combination) (a i : ℕ) (f : Combination) → forms ≡ derived_forms braid m u → i ≡ a → a < braid.letters → f ≡ get_or forms i f → f ≡ derived_form braid m u (a + 1)
+pub form_here : (braid : BraidValue) (m : ℕ) (u : List ℕ) (forms : List Combination) (a i : ℕ) (f : Combination) → forms ≡ derived_forms braid m u → i ≡ a → a < braid.letters → f ≡ get_or forms i f → f ≡ derived_form is_killed braid m u (a + 1)
 unfolding derived_forms
-form_here braid m u forms a i f e same less at = at ∙ ap₂ (λ xs j. get_or xs j f) e same ∙ by_letter (derived_form braid m u) braid.letters a f less
+form_here braid m u forms a i f e same less at = at ∙ ap₂ (λ xs j. get_or xs j f) e same ∙ by_letter (derived_form is_killed braid m u) braid.letters a f less
 
 -- ---- derivatives are normal forms
 
-pub derived_form_is_normal : (braid : BraidValue) → IsBraid braid → (p : ℕ) (w : List ℕ) (a : ℕ) → length w ≡ suc p → IsWordOver braid.letters w → IsLetter braid a → IsNormalForm is_killed braid p (derived braid a (single w)) (derived_form braid (suc p) w a)
-unfolding derived_form
-derived_form_is_normal braid is p w a size over letter =
-    form_is_normal is_killed braid is.field p (killed_is_linear braid is p) (derived braid a (single w)) (derived_degree braid a p (single w) (size, tt)) (derived_over braid is.rack a letter (single w) (over, tt))
-
-pub derived_form_elements : (braid : BraidValue) → IsBraid braid → (m : ℕ) (w : List ℕ) (a : ℕ) → IsIn w (basis is_killed braid m) → IsLetter braid a → AllElements braid.field (derived_form braid m w a)
+pub derived_form_elements : (braid : BraidValue) → IsBraid braid → (m : ℕ) (w : List ℕ) (a : ℕ) → Contains (basis is_killed braid m) w → IsLetter braid a → AllElements braid.field (derived_form is_killed braid m w a)
 unfolding derived_form
 derived_form_elements braid is zero w a i letter = tt
 derived_form_elements braid is (suc p) w a i letter =
     let own : (length w ≡ suc p) × IsWordOver braid.letters w × (is_least is_killed braid w ≡ true) = from_basis is_killed braid (suc p) w i in
-    (derived_form_is_normal braid is p w a own.0 own.1 letter).elements
+    (derived_form_is_normal is_killed braid is (killed_is_ideal_from_right braid is) p w a own.0 own.1 letter).elements
 
-basis_short : (braid : BraidValue) (p : ℕ) (f : Combination) → p < word_limit → AllAmong f (basis is_killed braid p) → AllShort f
+basis_short : (braid : BraidValue) (p : ℕ) (f : Combination) → p < WORD_LIMIT → AllAmong f (basis is_killed braid p) → AllShort f
 unfolding AllAmong
 basis_short braid p [] less h = tt
 basis_short braid p (t ∷ f) less h = (let e : length t.word ≡ p = (from_basis is_killed braid p t.word h.0).0 in omega arith, basis_short braid p f less h.1)
 
-pub derived_form_short : (braid : BraidValue) → IsBraid braid → (m : ℕ) (w : List ℕ) (a : ℕ) → m < word_limit → IsIn w (basis is_killed braid m) → IsLetter braid a → AllShort (derived_form braid m w a)
+pub derived_form_short : (braid : BraidValue) → IsBraid braid → (m : ℕ) (w : List ℕ) (a : ℕ) → m < WORD_LIMIT → Contains (basis is_killed braid m) w → IsLetter braid a → AllShort (derived_form is_killed braid m w a)
 unfolding derived_form
 derived_form_short braid is zero w a less i letter = tt
 derived_form_short braid is (suc p) w a less i letter =
     let own : (length w ≡ suc p) × IsWordOver braid.letters w × (is_least is_killed braid w ≡ true) = from_basis is_killed braid (suc p) w i in
-    basis_short braid p (derived_form braid (suc p) w a) (omega arith) (derived_form_is_normal braid is p w a own.0 own.1 letter).least
+    basis_short braid p (derived_form is_killed braid (suc p) w a) (omega arith) (derived_form_is_normal is_killed braid is (killed_is_ideal_from_right braid is) p w a own.0 own.1 letter).least
+
+-- the derivative of a candidate, from what is kept of the word before its last letter
+pub derivative_is : (braid : BraidValue) → IsBraid braid → (m : ℕ) (table : List PlainRelation) (u : List ℕ) (form r : Combination) (a b : ℕ) → Contains (basis is_killed braid m) u → IsLetter braid a → IsLetter braid b →
+    table ≡ relations is_killed braid m → form ≡ derived_form is_killed braid m u a → r ≡ in_order braid.field (derived_from braid table u form a b) → r ≡ derived_form is_killed braid (suc m) (u ++ b ∷ []) a
+derivative_is braid is m table u form r a b i la lb table_is form_of e =
+    e ∙ ap₂ (λ t f. in_order braid.field (derived_from braid t u f a b)) table_is form_of ∙ sym (derivatives_of_candidates is_killed braid is (killed_is_ideal_from_right braid is) m u a b i la lb)
 
 -- ---- the table of a degree
 
@@ -120,22 +121,16 @@ table_is_table braid is m table e = record {
     others : List (List ℕ)
     others = filter (λ w. not (is_least is_killed braid w)) (candidates is_killed braid m)
 
-    of_others : (w : List ℕ) → IsIn w others → (length w ≡ m) × IsWordOver braid.letters w
+    of_others : (w : List ℕ) → Contains others w → (length w ≡ m) × IsWordOver braid.letters w
     of_others w i = from_candidates is_killed braid m w (from_filter (λ v. not (is_least is_killed braid v)) w (candidates is_killed braid m) i).0
 
 -- ---- the words of a basis in turn
 
-entry_is_in : {X : Type 0} (xs : List X) (k : ℕ) (x : X) → k < length xs → x ≡ get_or xs k x → IsIn x xs
-unfolding IsIn
-entry_is_in [] k x less at = absurd (omega arith)
-entry_is_in (y ∷ xs) zero x less at = inl at
-entry_is_in (y ∷ xs) (suc k) x less at = inr (entry_is_in xs k x (omega arith) at)
-
-pub least_entry : (braid : BraidValue) (m : ℕ) (us : List (List ℕ)) (k : ℕ) (u : List ℕ) → us ≡ basis is_killed braid m → k < length us → u ≡ get_or us k u → IsIn u (basis is_killed braid (length u)) × (length u ≡ m)
+pub least_entry : (braid : BraidValue) (m : ℕ) (us : List (List ℕ)) (k : ℕ) (u : List ℕ) → us ≡ basis is_killed braid m → k < length us → u ≡ get_or us k u → Contains (basis is_killed braid (length u)) u × (length u ≡ m)
 least_entry braid m us k u e less at =
-    let i : IsIn u (basis is_killed braid m) = subst (IsIn u) e (entry_is_in us k u less at) in
+    let i : Contains (basis is_killed braid m) u = subst (λ ys. Contains ys u) e (k, less, sym at) in
     let size : length u ≡ m = (from_basis is_killed braid m u i).0 in
-    (subst (λ d. IsIn u (basis is_killed braid d)) (sym size) i, size)
+    (subst (λ d. Contains (basis is_killed braid d) u) (sym size) i, size)
 
 pub derivs_length : (braid : BraidValue) (m : ℕ) (us : List (List ℕ)) (derivs : List (List Combination)) → us ≡ basis is_killed braid m → derivs ≡ map (derived_forms braid m) (basis is_killed braid m) → length derivs ≡ length us
 derivs_length braid m us derivs e d = ap length d ∙ length-map (basis is_killed braid m) (derived_forms braid m) ∙ ap length (sym e)

@@ -6,7 +6,8 @@ use Rattle.std.specs.Ordering.{is_lt}
 use Rattle.std.specs.declared.cmp.Ordering.TheVariants.{Less, Equal, Greater}
 use Rattle.std.specs.Result.{MatchResult}
 use Rattle.std.proofs.lemmas.List.Sorted.{searchable_from_sorted}
-use Rattle.nichols_tensor.specs.Members.{IsIn}
+use Rattle.std.specs.List.{Contains}
+use Rattle.nichols_tensor.proofs.Entries.{contains_cases, contains_none}
 use Rattle.nichols_tensor.specs.WordOrder.{word_cmp, IsRising}
 use Rattle.nichols_tensor.proofs.Order.{word_cmp_total, word_cmp_itself, same_word, greater_back}
 
@@ -21,15 +22,17 @@ sorted_from_rising key xs r = λ i d low less.
     rw (add-one i) (ap is_lt (greater_back (key (get_or xs i d)) (key (get_or xs (suc i) d)) (adjacent key xs i d r (omega arith))))
 
 -- the place of an entry
-pub place_of_entry : {X : Type 0} (key : X → List ℕ) (xs : List X) (w : List ℕ) (d : X) → IsIn w (map key xs) → (j : ℕ) × (j < length xs) × (key (get_or xs j d) ≡ w)
-unfolding IsIn
-place_of_entry key [] w d i = absurd i
-place_of_entry key (x ∷ xs) w d (inl e) = (0, omega arith, sym e)
-place_of_entry key (x ∷ xs) w d (inr i) = let (j, less, e) = place_of_entry key xs w d i in (suc j, omega arith, e)
+pub place_of_entry : {X : Type 0} (key : X → List ℕ) (xs : List X) (w : List ℕ) (d : X) → Contains (map key xs) w → (j : ℕ) × (j < length xs) × (key (get_or xs j d) ≡ w)
+place_of_entry key [] w d i = absurd (contains_none w i)
+place_of_entry key (x ∷ xs) w d i =
+    elim (contains_cases (key x) (map key xs) w i) [
+      | inl e ↦ (0, omega arith, sym e)
+      | inr h ↦ let (j, less, e) = place_of_entry key xs w d h in (suc j, omega arith, e)
+    ]
 
 -- a search for a word finds its place, or the word isn't there
 pub search_says : {X : Type 0} (key : X → List ℕ) (xs : List X) (w : List ℕ) (r : Result ℕ ℕ) → IsRising (map key xs) → IsSearchInRange r (length xs) → IsBinarySearchResult (λ (x : X). word_cmp (key x) w) xs r →
-    MatchResult r (λ i. (d : X) → key (get_or xs i d) ≡ w) (λ i. (d : X) → IsIn w (map key xs) → ⊥)
+    MatchResult r (λ i. (d : X) → key (get_or xs i d) ≡ w) (λ i. (d : X) → Contains (map key xs) w → ⊥)
 search_says key xs w (Ok i) rising within found = λ d. same_word (key (get_or xs i d)) w (found d)
 search_says {X = X} key xs w (Err i) rising within found = λ d h.
     let (j, less, e) = place_of_entry key xs w d h in

@@ -1,7 +1,7 @@
 -- The rules of the degrees from 0 on.
 use Rattle.std.specs.Prelude.{◌≡◌, ◌<◌, ◌≤◌, ℕ, zero, suc, List, [], ◌∷◌, ◌++◌, length}
+use Rattle.nichols_braid.specs.declared.TheConstants.{MOST_DEGREES}
 use Rattle.nichols_braid.specs.Braid.{BraidValue}
-use Rattle.nichols_braid.specs.End.{most_degrees}
 use Rattle.nichols_block.specs.Rule.{PlainRule, rule_of}
 
 -- levels as contracts see them: the braid, and the last degree; the rule of each degree up to it is determined
@@ -16,5 +16,5 @@ rules_below braid (suc n) = rules_below braid n ++ rule_of braid n ∷ []
 -- the rule at place k is that of degree k
 pub record AreLevels (braid : BraidValue) (rules : List PlainRule) : Type 0 where
   pub some : 0 < length rules
-  pub most : length rules ≤ suc most_degrees
+  pub most : length rules ≤ suc MOST_DEGREES
   pub whole : rules ≡ rules_below braid (length rules)

@@ -1,4 +1,7 @@
+-- what public contracts cite
 pub mod Rule
-pub mod Forms
-pub mod Rows
 pub mod Levels
+-- what the crate's own functions cite
+pub mod Short
+pub mod Rows
+pub mod Places

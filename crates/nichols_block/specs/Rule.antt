@@ -1,25 +1,20 @@
 -- What holds of the words of a degree: the rule from which the degree above is made. It is read in the test of the skew derivations.
-use Rattle.std.specs.Prelude.{◌≡◌, ℕ, zero, suc, List, [], map}
-use Rattle.nichols_tensor.specs.Combination.{Combination, single}
+use Rattle.std.specs.Prelude.{◌≡◌, ℕ, List, map}
+use Rattle.nichols_tensor.specs.Combination.{Combination}
 use Rattle.nichols_tensor.specs.Words.{up_to}
 use Rattle.nichols_braid.specs.Braid.{BraidValue}
-use Rattle.nichols_braid.specs.Derivation.{derived}
+use Rattle.nichols_braid.specs.Forms.{derived_form}
 use Rattle.nichols_braid.specs.Kernel.{is_killed}
-use Rattle.nichols_braid.specs.Least.{basis, normal_form, relations}
+use Rattle.nichols_braid.specs.Least.{basis, relations}
 use Rattle.nichols_tensor.specs.Relation.{PlainRelation}
 
 -- the number of a degree, its least words, the normal forms of the derivatives of each, and its relations
 abbrev pub PlainRule : Type 0
 PlainRule = record { degree : ℕ; basis : List (List ℕ); derivs : List (List Combination); table : List PlainRelation }
 
--- the normal form of the derivative by a of a word of degree m; a word of degree 0 has the derivative 0
-unfoldable pub derived_form : BraidValue → ℕ → List ℕ → ℕ → Combination
-derived_form braid zero w a = []
-derived_form braid (suc m) w a = normal_form is_killed braid m (derived braid a (single w))
-
--- those by each letter
+-- the normal forms of the derivatives of a word of degree m by each letter
 unfoldable pub derived_forms : BraidValue → ℕ → List ℕ → List Combination
-derived_forms braid m w = map (derived_form braid m w) (up_to braid.letters)
+derived_forms braid m w = map (derived_form is_killed braid m w) (up_to braid.letters)
 
 -- the rule of degree m
 unfoldable pub rule_of : BraidValue → ℕ → PlainRule

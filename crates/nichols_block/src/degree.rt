@@ -1,17 +1,15 @@
 //! A degree from the degree below.
 
 ghost use Rattle.std.specs.Prelude.{◌<◌, IfOk, suc};
-ghost use Rattle.nichols_braid.specs.End.{most_degrees};
+ghost use Rattle.nichols_braid.specs.declared.TheConstants.{MOST_DEGREES};
 ghost use Rattle.nichols_block.specs.Rule.{IsRuleOf};
 
+use crate::candidates::{next_candidates, places_of};
 use crate::derivatives::all_derivatives;
-use crate::reading::least_derivatives;
-use crate::rows::rows_of;
+use crate::least_derivatives::least_derivatives;
 use crate::rule::DegreeRule;
 use nichols_braid::Braid;
-use nichols_echelon::split_rows;
 use nichols_rows::{independent_words, relations};
-use nichols_words::with_letters;
 use std::alloc::{AllocError, Global};
 
 /// The rule of the next degree, where `lower` is the rule of a degree from 0 to 59.
@@ -26,19 +24,15 @@ pub fn make_degree(
     lower: &DegreeRule,
 ) -> Result<DegreeRule, AllocError>
     requires rule { IsRuleOf braid.now lower.now.degree lower.now }
-    requires degree { lower.now.degree < most_degrees }
+    requires degree { lower.now.degree < MOST_DEGREES }
     ensures { IfOk result (IsRuleOf braid.now (suc lower.now.degree)) }
 {
-    let field = braid.field();
-    let below = lower.basis.as_slice();
-    let words = with_letters(alloc, braid.letters(), below)?;
+    let words = next_candidates(alloc, braid, lower)?;
     if words.len() > u32::MAX as usize {
         return Err(AllocError);
     }
     let all = all_derivatives(alloc, braid, lower)?;
-    let rows = rows_of(alloc, below, all.as_slice())?;
-    let places = split_rows(alloc, field, rows.as_slice())?;
-    drop(rows);
+    let places = places_of(alloc, braid, lower, all.as_slice())?;
     let listed = words.as_slice();
     let found = places.as_slice();
     let table = relations(alloc, listed, found)?;

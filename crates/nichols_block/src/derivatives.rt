@@ -2,17 +2,17 @@
 
 ghost use Rattle.std.specs.Prelude.{◌≡◌, ◌<◌, ◌++◌, ◌∷◌, IfOk, [], length, map, suc};
 ghost use Rattle.std.specs.Result.{OnOk};
+ghost use Rattle.std.specs.List.{Contains};
+ghost use Rattle.nichols_braid.specs.declared.TheConstants.{MOST_DEGREES};
+ghost use Rattle.nichols_tensor.specs.declared.TheConstants.{LETTER_LIMIT, WORD_LIMIT};
 ghost use Rattle.nichols_field.specs.Field.{IsElement};
-ghost use Rattle.nichols_tensor.specs.Combination.{AllElements, HasSameValues, scaled};
-ghost use Rattle.nichols_tensor.specs.Members.{IsIn};
-ghost use Rattle.nichols_tensor.specs.WordOrder.{IsOrdered};
-ghost use Rattle.nichols_tensor.specs.Words.{IsLetterOf, letter_limit, up_to};
-ghost use Rattle.nichols_words.specs.Word.{word_limit};
+ghost use Rattle.nichols_tensor.specs.Combination.{AllElements, scaled};
+ghost use Rattle.nichols_tensor.specs.Words.{IsLetterOf, up_to};
 ghost use Rattle.nichols_braid.specs.Braid.{IsLetter};
 ghost use Rattle.nichols_braid.specs.Kernel.{is_killed};
 ghost use Rattle.nichols_braid.specs.Least.{basis, candidates, relations};
-ghost use Rattle.nichols_braid.specs.End.{most_degrees};
-ghost use Rattle.nichols_block.specs.Forms.{AllShort, IsTable, derived_from, followed_form, form_in};
+ghost use Rattle.nichols_braid.specs.Forms.{IsTable, derived_from, followed_form, form_in};
+ghost use Rattle.nichols_block.specs.Short.{AllShort};
 ghost use Rattle.nichols_block.specs.Rule.{IsRuleOf, derived_forms};
 
 use crate::rule::{DegreeRule, Derivatives};
@@ -77,7 +77,7 @@ fn put_followed_form(
     requires table { IsTable field table.now }
     requires form { AllElements field form.now }
     requires short { AllShort form.now }
-    requires letter { IsLetterOf letter_limit letter }
+    requires letter { IsLetterOf LETTER_LIMIT letter }
     ensures { OnOk result (terms.new.items ≡ terms.old.items ++ scaled field by (followed_form field table.now form.now letter)) }
 {
     for term in form.terms() {
@@ -117,34 +117,6 @@ fn put_derivative(
     put_followed_form(field, by, table, form, letter, terms)
 }
 
-/// The normal form of the derivative by a of `u x_b`, from the form of that of u.
-///
-/// Its terms are collected in `terms`, in place of what that had, so that one list serves many derivatives.
-fn derivative(
-    alloc: Global,
-    braid: &Braid,
-    table: &[Relation],
-    u: Word,
-    form: &Comb,
-    a: u8,
-    b: u8,
-    terms: &mut Vec<Term>,
-) -> Result<Comb, AllocError>
-    requires table { IsTable braid.now.field table.now }
-    requires form { AllElements braid.now.field form.now }
-    requires short { AllShort form.now }
-    requires left { IsLetter braid.now a }
-    requires right { IsLetter braid.now b }
-    ensures value { IfOk result (λ r. HasSameValues braid.now.field r (derived_from braid.now table.now u form.now a b)) }
-    ensures elements { IfOk result (AllElements braid.now.field) }
-    ensures shape { IfOk result IsOrdered }
-{
-    let field = braid.field();
-    terms.clear();
-    put_derivative(braid, table, u, form, a, b, terms)?;
-    Comb::sum_of(alloc, field, terms.as_mut_slice())
-}
-
 /// The normal forms of the derivatives of `u x_b`, from those of the least word u.
 fn derivatives(
     alloc: Global,
@@ -154,19 +126,21 @@ fn derivatives(
     forms: &[Comb],
     b: u8,
 ) -> Result<Derivatives, AllocError>
-    requires word { IsIn u (basis is_killed braid.now (length u)) }
-    requires short { length u < word_limit }
+    requires word { Contains (basis is_killed braid.now (length u)) u }
+    requires short { length u < WORD_LIMIT }
     requires table { table.now ≡ relations is_killed braid.now (length u) }
     requires forms { forms.now ≡ derived_forms braid.now (length u) u }
     requires letter { IsLetter braid.now b }
     ensures { IfOk result (λ r. r ≡ derived_forms braid.now (suc (length u)) (u ++ b ∷ [])) }
 {
-    let _field = braid.field();
+    let field = braid.field();
     let mut terms = Vec::new(alloc);
     let mut out = Vec::new(alloc);
     for a in 0..braid.letters() {
         let form = &forms[usize::from(a)];
-        out.push(derivative(alloc, braid, table, u, form, a + 1, b, &mut terms)?)?;
+        terms.clear();
+        put_derivative(braid, table, u, form, a + 1, b, &mut terms)?;
+        out.push(Comb::sum_of(alloc, field, terms.as_mut_slice())?)?;
     }
     Ok(Derivatives::of(out))
 }
@@ -180,8 +154,8 @@ fn push_derivatives(
     forms: &[Comb],
     out: &mut Vec<Derivatives>,
 ) -> Result<(), AllocError>
-    requires word { IsIn u (basis is_killed braid.now (length u)) }
-    requires short { length u < word_limit }
+    requires word { Contains (basis is_killed braid.now (length u)) u }
+    requires short { length u < WORD_LIMIT }
     requires table { table.now ≡ relations is_killed braid.now (length u) }
     requires forms { forms.now ≡ derived_forms braid.now (length u) u }
     ensures { OnOk result (out.new.items ≡ out.old.items ++ map (λ b. derived_forms braid.now (suc (length u)) (u ++ b ∷ [])) (up_to braid.now.letters)) }
@@ -199,7 +173,7 @@ pub(crate) fn all_derivatives(
     lower: &DegreeRule,
 ) -> Result<Vec<Derivatives>, AllocError>
     requires rule { IsRuleOf braid.now lower.now.degree lower.now }
-    requires degree { lower.now.degree < most_degrees }
+    requires degree { lower.now.degree < MOST_DEGREES }
     ensures { IfOk result (λ r. r.items ≡ map (derived_forms braid.now (suc lower.now.degree)) (candidates is_killed braid.now (suc lower.now.degree))) }
 {
     let table = lower.table.as_slice();

@@ -1,10 +1,10 @@
 //! The degrees of an algebra that are made, from degree 0 on.
 
 ghost use Rattle.std.specs.Prelude.{◌≡◌, ◌<◌, ◌≤◌, ◌↔◌, IfOk, IsTrue, OnErr, OnOk, [], map, suc};
+ghost use Rattle.nichols_braid.specs.declared.TheConstants.{MOST_DEGREES};
 ghost use Rattle.nichols_tensor.specs.Words.{up_to};
 ghost use Rattle.nichols_braid.specs.Kernel.{is_killed};
 ghost use Rattle.nichols_braid.specs.Least.{basis};
-ghost use Rattle.nichols_braid.specs.End.{most_degrees};
 ghost use Rattle.nichols_block.specs.Rule.{IsRuleOf};
 
 use crate::rule::{DegreeRule, Derivatives};
@@ -74,7 +74,7 @@ impl Levels {
     /// Puts the rule of the next degree, which is at most 60, on top. On an error the levels are as before, and the rule is gone.
     pub fn push(&mut self, rule: DegreeRule) -> Result<(), AllocError>
         requires next { IsRuleOf self.old.braid (suc self.old.last) rule }
-        requires room { self.old.last < most_degrees }
+        requires room { self.old.last < MOST_DEGREES }
         ensures pushed { OnOk result (self.new ≡ record { braid = self.old.braid; last = suc self.old.last }) }
         ensures kept { OnErr result (self.new ≡ self.old) }
     {
@@ -94,7 +94,7 @@ impl Levels {
     /// The last degree.
     pub fn last(&self) -> u32
         ensures value { result ≡ self.now.last }
-        ensures limit { result ≤ most_degrees }
+        ensures limit { result ≤ MOST_DEGREES }
     {
         (self.rules.len() - 1) as u32
     }

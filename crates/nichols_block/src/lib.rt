@@ -4,10 +4,11 @@
 //! `AllocError` says that there was no memory.
 #![tactic(auto)]
 
+mod candidates;
 mod degree;
 mod derivatives;
+mod least_derivatives;
 mod levels;
-mod reading;
 mod rows;
 mod rule;
 

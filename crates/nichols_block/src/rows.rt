@@ -1,10 +1,9 @@
 //! The rows of candidates: the coefficients of their derivatives, by letter and least word of the degree below.
 
 ghost use Rattle.std.specs.Prelude.{◌≡◌, ◌<◌, ◌≤◌, ◌+◌, ◌*◌, ◌^◌, ◌++◌, IfOk, length, map};
-ghost use Rattle.std.specs.List.{AllByRecursion};
+ghost use Rattle.std.specs.List.{AllByRecursion, Contains};
 ghost use Rattle.std.specs.Result.{OnOk};
 ghost use Rattle.nichols_tensor.specs.Combination.{AllAmong};
-ghost use Rattle.nichols_tensor.specs.Members.{IsIn};
 ghost use Rattle.nichols_tensor.specs.WordOrder.{IsRising};
 ghost use Rattle.nichols_block.specs.Rows.{IsFormOver, form_cells, place_in, row_cells};
 
@@ -16,7 +15,7 @@ use std::alloc::{AllocError, Global};
 /// The place of a word in a list that has it.
 fn place_of(basis: &[Word], word: &Word) -> usize
     requires rising { IsRising basis.now }
-    requires there { IsIn word.now basis.now }
+    requires there { Contains basis.now word.now }
     ensures place { result ≡ place_in basis.now word.now }
     ensures inside { result < length basis.now }
 {

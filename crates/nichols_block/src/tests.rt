@@ -1,7 +1,8 @@
 use super::*;
-use nichols_braid::{Braid, Scalars};
+use nichols_braid::{Braid, MOST_DEGREES, Scalars};
 use nichols_field::Field;
-use nichols_words::Word;
+use nichols_tensor::LETTER_LIMIT;
+use nichols_words::{Comb, Relation, Word};
 use std::alloc::{AllocError, Global};
 use std::test::Fail;
 
@@ -32,65 +33,110 @@ fn start(alloc: Global, p: i64, rack: &[&[i64]], q: i64) -> Result<Levels, Fail>
 /// One degree more, below the limit and after a degree that isn't empty.
 fn advance(alloc: Global, levels: &mut Levels) -> Result<(), AllocError> {
     let last = levels.last();
-    if last < 60 && !levels.closed() {
+    if last < MOST_DEGREES && !levels.closed() {
         let next = make_degree(alloc, levels.braid(), levels.rule(last))?;
         levels.push(next)?;
     }
     Ok(())
 }
 
-/// The letters of a word as the digits of a number.
-fn number(word: &Word) -> u64 {
-    let mut number: u64 = 0;
-    for letter in word.letters() {
-        number = number.saturating_mul(10).saturating_add(u64::from(*letter));
-    }
-    number
-}
-
-/// The least words; then for each relation 0, its candidate, and the coefficient and the word of each term.
-fn shown(alloc: Global, rule: &DegreeRule) -> Result<Vec<u64>, AllocError> {
-    let mut out = Vec::new(alloc);
-    for word in rule.basis.as_slice() {
-        out.push(number(word))?;
-    }
-    for relation in rule.table.as_slice() {
-        out.push(0)?;
-        out.push(number(&relation.candidate))?;
-        for term in relation.form.terms() {
-            out.push(u64::from(term.coefficient))?;
-            out.push(number(&term.word))?;
+/// The word that a text spells, as "3.1.2", or "" for the empty word. What is no letter, or has no room, is left out.
+fn word(text: &str) -> Word {
+    let mut word = Word::empty();
+    for letter in text.split('.') {
+        if let Ok(letter) = letter.parse() {
+            if 1 <= letter && letter <= LETTER_LIMIT {
+                let _put = word.push(letter);
+            }
         }
     }
-    Ok(out)
+    word
 }
+
+fn has_words(words: &[Word], expected: &[&str]) -> bool {
+    words.len() == expected.len()
+        && words
+            .iter()
+            .zip(expected)
+            .all(|(found, text)| *found == word(text))
+}
+
+/// Whether a combination has these terms, in this order.
+fn has_terms(comb: &Comb, expected: &[(&str, u32)]) -> bool {
+    let terms = comb.terms();
+    terms.len() == expected.len()
+        && terms.iter().zip(expected).all(|(term, (text, coefficient))| term.word == word(text)
+            && term.coefficient == *coefficient)
+}
+
+/// A candidate with the terms of its form.
+type Expected = (&'static str, &'static [(&'static str, u32)]);
+
+fn has_relations(relations: &[Relation], expected: &[Expected]) -> bool {
+    relations.len() == expected.len()
+        && relations.iter().zip(expected).all(|(relation, (text, form))| relation.candidate
+            == word(text)
+            && has_terms(&relation.form, form))
+}
+
+/// The words and the relations of each degree of the algebra of the three transpositions over F_101.
+const DEGREES: [(&[&str], &[Expected]); 6] = [
+    (&[""], &[]),
+    (&["1", "2", "3"], &[]),
+    (
+        &["1.2", "1.3", "2.1", "2.3"],
+        &[
+            ("1.1", &[]),
+            ("2.2", &[]),
+            ("3.1", &[("1.2", 100), ("2.3", 100)]),
+            ("3.2", &[("1.3", 100), ("2.1", 100)]),
+            ("3.3", &[]),
+        ],
+    ),
+    (
+        &["1.2.1", "1.2.3", "2.1.3"],
+        &[
+            ("1.2.2", &[]),
+            ("1.3.1", &[("1.2.3", 100)]),
+            ("1.3.2", &[("1.2.1", 100)]),
+            ("1.3.3", &[]),
+            ("2.1.1", &[]),
+            ("2.1.2", &[("1.2.1", 1)]),
+            ("2.3.1", &[("1.2.1", 100)]),
+            ("2.3.2", &[("2.1.3", 100)]),
+            ("2.3.3", &[]),
+        ],
+    ),
+    (
+        &["1.2.1.3"],
+        &[
+            ("1.2.1.1", &[]),
+            ("1.2.1.2", &[]),
+            ("1.2.3.1", &[]),
+            ("1.2.3.2", &[("1.2.1.3", 100)]),
+            ("1.2.3.3", &[]),
+            ("2.1.3.1", &[("1.2.1.3", 100)]),
+            ("2.1.3.2", &[]),
+            ("2.1.3.3", &[]),
+        ],
+    ),
+    (
+        &[],
+        &[("1.2.1.3.1", &[]), ("1.2.1.3.2", &[]), ("1.2.1.3.3", &[])],
+    ),
+];
 
 #[test]
 fn three_transpositions(rt: HostRuntime) -> Result<(), Fail> {
     let alloc = rt.alloc();
     let mut levels = start(alloc, 101, &THREE, -1)?;
-    let degrees: [&[u64]; 6] = [
-        &[0],
-        &[1, 2, 3],
-        &[
-            12, 13, 21, 23, 0, 11, 0, 22, 0, 31, 100, 12, 100, 23, 0, 32, 100, 13, 100, 21, 0, 33,
-        ],
-        &[
-            121, 123, 213, 0, 122, 0, 131, 100, 123, 0, 132, 100, 121, 0, 133, 0, 211, 0, 212, 1,
-            121, 0, 231, 100, 121, 0, 232, 100, 213, 0, 233,
-        ],
-        &[
-            1213, 0, 1211, 0, 1212, 0, 1231, 0, 1232, 100, 1213, 0, 1233, 0, 2131, 100, 1213, 0,
-            2132, 0, 2133,
-        ],
-        &[0, 12131, 0, 12132, 0, 12133],
-    ];
-    for want in degrees {
+    for (words, relations) in DEGREES {
         let m = levels.last();
-        assert_eq!(rt; levels.rule(m).degree, m);
-        assert_eq!(rt;
-            shown(alloc, levels.rule(m))?.as_slice(),
-            want,
+        let rule = levels.rule(m);
+        assert_eq!(rt; rule.degree, m);
+        assert!(rt; has_words(rule.basis.as_slice(), words), "degree {m}");
+        assert!(rt;
+            has_relations(rule.table.as_slice(), relations),
             "degree {m}"
         );
         advance(alloc, &mut levels)?;

@@ -1,11 +1,10 @@
 -- The entries of images under the quantum symmetrizer tell which combinations are in its kernel.
 use Rattle.std.proofs.Common.{◌≡◌, ℕ, Bool, true, false, cond, List, [], ◌∷◌, length, refl, sym, ◌∙◌, ap, ap₂, subst, nat_eq, ◌⊎◌, inl, inr}
-use Rattle.std.specs.List.{AllByRecursion}
+use Rattle.std.specs.List.{AllByRecursion, Contains}
 use Rattle.std.specs.Cmp.Lexicographic.{same_text}
 use Rattle.std.proofs.lemmas.Bool.Decides.{Decides-eqb}
 use Rattle.nichols_field.specs.Field.{FieldValue, IsField, IsElement, plus, times}
 use Rattle.nichols_field.proofs.FieldLaws.{times_one, times_zero}
-use Rattle.nichols_tensor.specs.Members.{IsIn}
 use Rattle.nichols_tensor.specs.Combination.{Combination, HasSameValues, IsZero, AllElements, value_at, same_letters, words_of, single}
 use Rattle.nichols_tensor.specs.Words.{IsWordOver, IsOver, HasDegree}
 use Rattle.nichols_tensor.proofs.Values.{weight, weight_is_element, weightless, same_itself, weight-extended}
@@ -21,9 +20,10 @@ use Rattle.nichols_braid.proofs.Maps.{same_weight_on, everywhere}
 use Rattle.nichols_braid.proofs.Killed.{is_in_kernel_sound, is_in_kernel_complete}
 use Rattle.nichols_rows.proofs.Rows.{AreFunctionals}
 use Rattle.nichols_echelon.specs.Cells.{entry}
-use Rattle.nichols_lift.proofs.Step.{cross_length, cross_over}
+use Rattle.nichols_braid.proofs.Products.{cross_over}
+use Rattle.nichols_lift.proofs.Step.{cross_length}
 use Rattle.nichols_lift.proofs.Parts.{symmetrized_words}
-use Rattle.nichols_plain.specs.Columns.{number_of, numbered, image_entry}
+use Rattle.nichols_plain.specs.Columns.{number_of, row_of, image_entry}
 use Rattle.nichols_plain.proofs.Numbers.{same_number}
 
 -- 1 at the words with this number
@@ -35,12 +35,12 @@ chosen_one k is true c e = sym (times_one k c e)
 chosen_one k is false c e = sym (times_zero k c is)
 
 -- the entry at a column is a linear map of the values
-pub entry_is_weight : (k : FieldValue) → IsField k → (n c : ℕ) (f : Combination) → AllElements k f → entry k (numbered n f) c ≡ weight k (at_column n c) f
+pub entry_is_weight : (k : FieldValue) → IsField k → (n c : ℕ) (f : Combination) → AllElements k f → entry k (row_of n f) c ≡ weight k (at_column n c) f
 unfolding entry weight
 entry_is_weight k is n c [] e = refl
 entry_is_weight k is n c (t ∷ f) e = ap₂ (plus k) (chosen_one k is (nat_eq (number_of n t.word) c) t.coefficient e.0) (entry_is_weight k is n c f e.1)
 
-pub entry_of_same : (k : FieldValue) → IsField k → (n c : ℕ) (f g : Combination) → AllElements k f → AllElements k g → HasSameValues k f g → entry k (numbered n f) c ≡ entry k (numbered n g) c
+pub entry_of_same : (k : FieldValue) → IsField k → (n c : ℕ) (f g : Combination) → AllElements k f → AllElements k g → HasSameValues k f g → entry k (row_of n f) c ≡ entry k (row_of n g) c
 entry_of_same k is n c f g e h same = entry_is_weight k is n c f e ∙ same_weights k is (at_column n c) f g same ∙ sym (entry_is_weight k is n c g h)
 
 pub image_elements : (braid : BraidValue) → IsField braid.field → (f : Combination) → AllElements braid.field (symmetrized braid f)
@@ -86,13 +86,13 @@ both n m (t ∷ f) d o = ((d.0, o.0), both n m f d.1 o.1)
 zero_by_entries : (k : FieldValue) → IsField k → (n m : ℕ) (f : Combination) → AllElements k f → HasDegree m f → IsOver n f → ((c : ℕ) → weight k (at_column n c) f ≡ 0) → IsZero k f
 zero_by_entries k is n m f e d o h v = at (is_in_or_not v (words_of f))
   where
-    at : IsIn v (words_of f) ⊎ (IsIn v (words_of f) → ⊥) → value_at k f v ≡ 0
+    at : Contains (words_of f) v ⊎ (Contains (words_of f) v → ⊥) → value_at k f v ≡ 0
     at (inl here) = value_is_entry k is n m f v e (both n m f d o) (all_at (IsWordOf n m) (words_of f) v (all_of_words (IsWordOf n m) f (both n m f d o)) here) ∙ h (number_of n v)
     at (inr none) = zero_at_others k is f v none
 
 -- ---- the family
 
-pub image_entries_tell : (braid : BraidValue) → IsBraid braid → (m : ℕ) (ws : List (List ℕ)) → ((w : List ℕ) → IsIn w ws → length w ≡ m) → ((w : List ℕ) → IsIn w ws → IsWordOver braid.letters w) →
+pub image_entries_tell : (braid : BraidValue) → IsBraid braid → (m : ℕ) (ws : List (List ℕ)) → ((w : List ℕ) → Contains ws w → length w ≡ m) → ((w : List ℕ) → Contains ws w → IsWordOver braid.letters w) →
     AreFunctionals braid.field (is_in_kernel braid m) ws (image_entry braid)
 image_entries_tell braid is m ws degree over = record {
   elements = λ c w i. subst (IsElement k) (sym (image_entry_is braid is.field c w)) (weight_is_element k is.field (at_column braid.letters c) (lifts braid w));
@@ -108,5 +108,5 @@ image_entries_tell braid is m ws degree over = record {
     k : FieldValue
     k = braid.field
 
-    each : (P : List ℕ → Type 0) (vs : List (List ℕ)) → ((w : List ℕ) → IsIn w vs → P w) → AllByRecursion P vs
+    each : (P : List ℕ → Type 0) (vs : List (List ℕ)) → ((w : List ℕ) → Contains vs w → P w) → AllByRecursion P vs
     each P vs h = all_of_entries P vs h

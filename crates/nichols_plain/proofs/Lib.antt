@@ -1,4 +1,4 @@
 pub mod Numbers
 pub mod Functionals
 pub mod Steps
-pub mod Sorting
+pub mod CandidatePlaces

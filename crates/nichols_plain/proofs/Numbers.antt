@@ -8,7 +8,7 @@ use Rattle.std.proofs.lemmas.Cmp.{nat_cmp_total}
 use Rattle.std.specs.Cmp.Lexicographic.{slice_cmp}
 use Rattle.std.specs.declared.cmp.Ordering.{Ordering}
 use Rattle.std.specs.declared.cmp.Ordering.TheVariants.{Less, Equal, Greater}
-use Rattle.nichols_field.proofs.Primes.{two_bounds}
+use Rattle.std.proofs.Math.Nat.{mul-le-mul}
 use Rattle.nichols_tensor.specs.Combination.{Combination, words_of}
 use Rattle.nichols_tensor.specs.Words.{IsLetterOf, IsWordOver, IsOver, HasDegree}
 use Rattle.nichols_tensor.specs.WordOrder.{word_cmp, IsBelowFirst, IsRising}
@@ -17,7 +17,7 @@ use Rattle.nichols_tensor.proofs.AllWords.{same_length_cmp, number_below, number
 use Rattle.nichols_echelon.specs.Cells.{columns_of, AllNonzero, IsRow}
 use Rattle.nichols_echelon.specs.Cells.{IsBelowFirst as IsColumnBelow, IsRising as AreColumnsRising}
 use Rattle.nichols_tensor.specs.Combination.{AllNonzero as AllTermsNonzero}
-use Rattle.nichols_plain.specs.Columns.{number_behind, number_of, numbered}
+use Rattle.nichols_plain.specs.Columns.{number_behind, number_of, row_of}
 
 -- ---- a letter more
 
@@ -33,7 +33,7 @@ number_more n w i x number within at same =
 pub number_bound : (n i x number : ℕ) → IsLetterOf n x → number < n ^ i → number * n + (x - 1) < n ^ (i + 1)
 number_bound n i x number letter below =
     let power : n ^ (i + 1) ≡ n ^ i * n = ap (λ j. n ^ j) (add-one i) ∙ pow-suc n i in
-    let product : (number + 1) * n ≤ n ^ i * n = two_bounds (number + 1) n (n ^ i) n (omega arith) (omega arith) in
+    let product : (number + 1) * n ≤ n ^ i * n = mul-le-mul (omega arith) (omega arith) in
     subst (λ p. number * n + (x - 1) < p) (sym power) (omega (arith, product, letter.0, letter.1))
 
 pub number_fits : (n i m x number : ℕ) → IsLetterOf n x → number < n ^ i → i < m → n ^ m < 2 ^ 32 → number * n + (x - 1) < 2 ^ 32
@@ -46,7 +46,7 @@ number_fits n i m x number letter below less few =
 
 digit_less : (n b c x y : ℕ) → b < c → IsLetterOf n x → b * n + (x - 1) < c * n + (y - 1)
 digit_less n b c x y less letter =
-    let product : (b + 1) * n ≤ c * n = two_bounds (b + 1) n c n (omega arith) (omega arith) in
+    let product : (b + 1) * n ≤ c * n = mul-le-mul (omega arith) (omega arith) in
     omega (arith, product, letter.0, letter.1)
 
 behind_less : (n b c : ℕ) (v w : List ℕ) → length v ≡ length w → IsWordOver n v → b < c → number_behind n b v < number_behind n c w
@@ -90,17 +90,17 @@ same_number n v w e o p h = at (word_cmp v w) refl
 
 -- ---- combinations as rows
 
-numbered_rises : (n m : ℕ) (f : Combination) → HasDegree m f → IsOver n f → IsRising (words_of f) → AreColumnsRising (columns_of (numbered n f))
-numbered_rises n m [] d o r = tt
-numbered_rises n m (t ∷ f) d o r = (first f d.1 o.1 r.0, numbered_rises n m f d.1 o.1 r.1)
+row_of_rises : (n m : ℕ) (f : Combination) → HasDegree m f → IsOver n f → IsRising (words_of f) → AreColumnsRising (columns_of (row_of n f))
+row_of_rises n m [] d o r = tt
+row_of_rises n m (t ∷ f) d o r = (first f d.1 o.1 r.0, row_of_rises n m f d.1 o.1 r.1)
   where
-    first : (g : Combination) → HasDegree m g → IsOver n g → IsBelowFirst t.word (words_of g) → IsColumnBelow (number_of n t.word) (columns_of (numbered n g))
+    first : (g : Combination) → HasDegree m g → IsOver n g → IsBelowFirst t.word (words_of g) → IsColumnBelow (number_of n t.word) (columns_of (row_of n g))
     first [] dg og h = tt
     first (u ∷ g) dg og h = numbers_rise n t.word u.word (d.0 ∙ sym dg.0) o.0 og.0 h
 
-numbered_nonzero : (n : ℕ) (f : Combination) → AllTermsNonzero f → AllNonzero (numbered n f)
-numbered_nonzero n [] h = tt
-numbered_nonzero n (t ∷ f) h = (h.0, numbered_nonzero n f h.1)
+row_of_nonzero : (n : ℕ) (f : Combination) → AllTermsNonzero f → AllNonzero (row_of n f)
+row_of_nonzero n [] h = tt
+row_of_nonzero n (t ∷ f) h = (h.0, row_of_nonzero n f h.1)
 
-pub numbered_is_row : (n m : ℕ) (f : Combination) → HasDegree m f → IsOver n f → IsRising (words_of f) → AllTermsNonzero f → IsRow (numbered n f)
-numbered_is_row n m f d o r h = record { rising = numbered_rises n m f d o r; nonzero = numbered_nonzero n f h }
+pub row_of_is_row : (n m : ℕ) (f : Combination) → HasDegree m f → IsOver n f → IsRising (words_of f) → AllTermsNonzero f → IsRow (row_of n f)
+row_of_is_row n m f d o r h = record { rising = row_of_rises n m f d o r; nonzero = row_of_nonzero n f h }

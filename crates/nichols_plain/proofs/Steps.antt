@@ -3,8 +3,9 @@ use Rattle.std.proofs.Common.{◌≡◌, ℕ, zero, suc, ◌+◌, ◌*◌, ◌^�
 use Rattle.std.specs.List.{AllByRecursion, flat_map, filter}
 use Rattle.std.proofs.lemmas.List.{take_all, length-append}
 use Rattle.std.proofs.Math.Nat.{pow-zero, pow-suc, pow-le-pow_right}
+use Rattle.nichols_tensor.specs.declared.TheConstants.{WORD_LIMIT}
 use Rattle.nichols_field.specs.Field.{FieldValue}
-use Rattle.nichols_field.proofs.Primes.{two_bounds}
+use Rattle.std.proofs.Math.Nat.{mul-le-mul}
 use Rattle.nichols_tensor.specs.Combination.{Combination, HasSameValues, AllElements, single}
 use Rattle.nichols_tensor.specs.WordOrder.{IsRising}
 use Rattle.nichols_tensor.specs.Words.{up_to, words, IsWordOver, with_letters}
@@ -17,26 +18,25 @@ use Rattle.nichols_braid.specs.Least.{basis, candidates, is_least}
 use Rattle.nichols_braid.specs.Symmetrizer.{symmetrized}
 use Rattle.nichols_braid.proofs.Candidates.{candidates_first, candidates_next, from_candidates, candidates_rise}
 use Rattle.nichols_braid.proofs.Reduction.{from_basis}
-use Rattle.nichols_words.specs.Word.{word_limit}
 use Rattle.nichols_echelon.specs.Cells.{Cell, entry}
 use Rattle.nichols_echelon.specs.Cells.{AllElements as AllCellsElements}
-use Rattle.nichols_lift.specs.Lengths.{symmetrizer_limit}
-use Rattle.nichols_plain.specs.Columns.{HasColumns, numbered, image_entry}
+use Rattle.nichols_lift.specs.declared.TheConstants.{PLACE_LIMIT}
+use Rattle.nichols_plain.specs.Columns.{HasColumns, row_of, image_entry}
 use Rattle.nichols_plain.proofs.Functionals.{entry_of_same, image_elements}
 
 -- ---- the row of an image
 
-numbered_elements : (k : FieldValue) (n : ℕ) (f : Combination) → AllElements k f → AllCellsElements k (numbered n f)
-numbered_elements k n [] h = tt
-numbered_elements k n (t ∷ f) h = (h.0, numbered_elements k n f h.1)
+row_of_elements : (k : FieldValue) (n : ℕ) (f : Combination) → AllElements k f → AllCellsElements k (row_of n f)
+row_of_elements k n [] h = tt
+row_of_elements k n (t ∷ f) h = (h.0, row_of_elements k n f h.1)
 
-pub row_is : (n letters : ℕ) (cells : List Cell) (items image : Combination) (i : ℕ) → items ≡ image → length items ≤ i → cells ≡ numbered n (take i items) → cells ≡ numbered n image
-row_is n letters cells items image i same end is = is ∙ ap (numbered n) (take_all i items end ∙ same)
+pub row_is : (n letters : ℕ) (cells : List Cell) (items image : Combination) (i : ℕ) → items ≡ image → length items ≤ i → cells ≡ row_of n (take i items) → cells ≡ row_of n image
+row_is n letters cells items image i same end is = is ∙ ap (row_of n) (take_all i items end ∙ same)
 
-pub row_elements : (k : FieldValue) (n : ℕ) (row : List Cell) (image : Combination) → row ≡ numbered n image → AllElements k image → AllCellsElements k row
-row_elements k n row image is h = subst (AllCellsElements k) (sym is) (numbered_elements k n image h)
+pub row_elements : (k : FieldValue) (n : ℕ) (row : List Cell) (image : Combination) → row ≡ row_of n image → AllElements k image → AllCellsElements k row
+row_elements k n row image is h = subst (AllCellsElements k) (sym is) (row_of_elements k n image h)
 
-pub row_entries : (braid : BraidValue) → IsBraid braid → (w : List ℕ) (one image : Combination) (row : List Cell) → one ≡ single w → AllElements braid.field image → HasSameValues braid.field image (symmetrized braid one) → row ≡ numbered braid.letters image →
+pub row_entries : (braid : BraidValue) → IsBraid braid → (w : List ℕ) (one image : Combination) (row : List Cell) → one ≡ single w → AllElements braid.field image → HasSameValues braid.field image (symmetrized braid one) → row ≡ row_of braid.letters image →
     (c : ℕ) → entry braid.field row c ≡ image_entry braid c w
 unfolding image_entry
 row_entries braid is w one image row single_is elements same row_is c =
@@ -45,13 +45,13 @@ row_entries braid is w one image row single_is elements same row_is c =
 
 -- ---- candidates
 
-pub candidates_have_columns : (braid : BraidValue) (m : ℕ) (ws : List (List ℕ)) → ws ≡ candidates is_in_kernel braid m → m ≤ symmetrizer_limit → braid.letters ^ m < 2 ^ 32 → AllByRecursion (HasColumns braid) ws
+pub candidates_have_columns : (braid : BraidValue) (m : ℕ) (ws : List (List ℕ)) → ws ≡ candidates is_in_kernel braid m → m ≤ PLACE_LIMIT → braid.letters ^ m < 2 ^ 32 → AllByRecursion (HasColumns braid) ws
 candidates_have_columns braid m ws is short few =
     subst (AllByRecursion (HasColumns braid)) (sym is)
     (all_of_entries (HasColumns braid) (candidates is_in_kernel braid m)
     (λ w i.
     let from : (length w ≡ m) × IsWordOver braid.letters w = from_candidates is_in_kernel braid m w i in
-    record { short = subst (λ l. l ≤ symmetrizer_limit) (sym from.0) short; letters = from.1; columns = subst (λ l. braid.letters ^ l < 2 ^ 32) (sym from.0) few }))
+    record { short = subst (λ l. l ≤ PLACE_LIMIT) (sym from.0) short; letters = from.1; columns = subst (λ l. braid.letters ^ l < 2 ^ 32) (sym from.0) few }))
 
 prefixed_length : (ws : List (List ℕ)) (letters : List ℕ) → length (flat_map (λ a. map (λ w. a ∷ w) ws) letters) ≡ length letters * length ws
 prefixed_length ws [] = let e : ◌≡◌ {A = ℕ} 0 (0 * length ws) = omega arith in e
@@ -86,7 +86,7 @@ candidates_few : (braid : BraidValue) (m : ℕ) → length (candidates is_in_ker
 candidates_few braid zero = subst (λ l. length (candidates is_in_kernel braid 0) ≤ l) (sym (pow-zero braid.letters)) (subst (λ l. l ≤ 1) (sym (ap length (candidates_first is_in_kernel braid))) (omega arith))
 candidates_few braid (suc m) =
     let count : length (candidates is_in_kernel braid (suc m)) ≡ braid.letters * length (basis is_in_kernel braid m) = ap length (candidates_next is_in_kernel braid m) ∙ with_letters_length braid.letters (basis is_in_kernel braid m) in
-    let bound : length (basis is_in_kernel braid m) * braid.letters ≤ braid.letters ^ m * braid.letters = two_bounds (length (basis is_in_kernel braid m)) braid.letters (braid.letters ^ m) braid.letters (basis_few braid m) (omega arith) in
+    let bound : length (basis is_in_kernel braid m) * braid.letters ≤ braid.letters ^ m * braid.letters = mul-le-mul (basis_few braid m) (omega arith) in
     let power : braid.letters ^ suc m ≡ braid.letters ^ m * braid.letters = pow-suc braid.letters m in
     omega (arith, count, bound, power)
 
@@ -101,10 +101,10 @@ next_columns n before m some less few =
     let power : n ^ (before + 1) ≤ n ^ m = pow-le-pow_right (let above : 0 < n = omega arith in above) (let next : before + 1 ≤ m = omega arith in next) in
     omega arith
 
-pub basis_has_room : (braid : BraidValue) (m : ℕ) (us : List (List ℕ)) → us ≡ basis is_in_kernel braid m → m ≤ symmetrizer_limit → AllByRecursion (λ w. length w < word_limit) us
+pub basis_has_room : (braid : BraidValue) (m : ℕ) (us : List (List ℕ)) → us ≡ basis is_in_kernel braid m → m ≤ PLACE_LIMIT → AllByRecursion (λ w. length w < WORD_LIMIT) us
 basis_has_room braid m us is short =
-    subst (AllByRecursion (λ w. length w < word_limit)) (sym is)
-    (all_of_entries (λ w. length w < word_limit) (basis is_in_kernel braid m) (λ w i. let size : length w ≡ m = (from_basis is_in_kernel braid m w i).0 in omega arith))
+    subst (AllByRecursion (λ w. length w < WORD_LIMIT)) (sym is)
+    (all_of_entries (λ w. length w < WORD_LIMIT) (basis is_in_kernel braid m) (λ w i. let size : length w ≡ m = (from_basis is_in_kernel braid m w i).0 in omega arith))
 
 pub next_candidates : (braid : BraidValue) (n before : ℕ) (us ws : List (List ℕ)) → n ≡ braid.letters → us ≡ basis is_in_kernel braid before → ws ≡ with_letters n us → ws ≡ candidates is_in_kernel braid (before + 1)
 next_candidates braid n before us ws letters is words =

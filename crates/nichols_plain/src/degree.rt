@@ -3,7 +3,7 @@
 ghost use Rattle.std.specs.Prelude.{◌≡◌, ◌<◌, ◌≤◌, ◌^◌, IfOk};
 ghost use Rattle.nichols_braid.specs.Kernel.{is_in_kernel};
 ghost use Rattle.nichols_braid.specs.Least.{candidates};
-ghost use Rattle.nichols_lift.specs.Lengths.{symmetrizer_limit};
+ghost use Rattle.nichols_lift.specs.declared.TheConstants.{PLACE_LIMIT};
 ghost use Rattle.nichols_plain.specs.Degree.{IsDegree};
 
 use crate::images::image_rows;
@@ -26,7 +26,7 @@ pub struct PlainDegree {
 ///
 /// It works from degree 0 up. The columns of its matrices are all words of a degree, by their numbers.
 pub fn plain_degree(alloc: Global, braid: &Braid, m: u32) -> Result<PlainDegree, AllocError>
-    requires degree { m ≤ symmetrizer_limit }
+    requires degree { m ≤ PLACE_LIMIT }
     requires columns { braid.now.letters ^ m < 2 ^ 32 }
     ensures { IfOk result (IsDegree braid.now m) }
 {
@@ -34,22 +34,22 @@ pub fn plain_degree(alloc: Global, braid: &Braid, m: u32) -> Result<PlainDegree,
     let letters = braid.letters();
     let mut first = Vec::new(alloc);
     first.push(Word::empty())?;
-    let mut last = sorted_out(alloc, braid, 0, first.as_slice())?;
+    let mut last = degree_of_candidates(alloc, braid, 0, first.as_slice())?;
     for before in 0..m {
         let words = with_letters(alloc, letters, last.basis.as_slice())?;
-        last = sorted_out(alloc, braid, before + 1, words.as_slice())?;
+        last = degree_of_candidates(alloc, braid, before + 1, words.as_slice())?;
     }
     Ok(last)
 }
 
 /// The degree whose candidates these words are.
-fn sorted_out(
+fn degree_of_candidates(
     alloc: Global,
     braid: &Braid,
     degree: u32,
     words: &[Word],
 ) -> Result<PlainDegree, AllocError>
-    requires degree { degree ≤ symmetrizer_limit }
+    requires degree { degree ≤ PLACE_LIMIT }
     requires columns { braid.now.letters ^ degree < 2 ^ 32 }
     requires words { words.now ≡ candidates is_in_kernel braid.now degree }
     ensures { IfOk result (IsDegree braid.now degree) }

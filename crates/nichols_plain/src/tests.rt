@@ -1,9 +1,23 @@
 use super::*;
 use nichols_braid::{Braid, Scalars};
 use nichols_field::Field;
+use nichols_tensor::LETTER_LIMIT;
 use nichols_words::{Comb, Relation, Word};
 use std::alloc::{AllocError, Global};
 use std::test::Fail;
+
+/// The word that a text spells, as "3.1.2", or "" for the empty word. What is no letter, or has no room, is left out.
+fn word(text: &str) -> Word {
+    let mut word = Word::empty();
+    for letter in text.split('.') {
+        if let Ok(letter) = letter.parse() {
+            if 1 <= letter && letter <= LETTER_LIMIT {
+                let _put = word.push(letter);
+            }
+        }
+    }
+    word
+}
 
 fn table(alloc: Global, entries: &[&[i64]]) -> Result<Vec<Vec<i64>>, AllocError> {
     let mut out = Vec::new(alloc);
@@ -31,31 +45,30 @@ fn three_transpositions(alloc: Global) -> Result<Braid, Fail> {
     )
 }
 
-/// Whether a combination has these terms, in this order.
-fn has_terms(comb: &Comb, expected: &[(&[u8], u32)]) -> bool {
-    let terms = comb.terms();
-    terms.len() == expected.len()
-        && terms.iter().zip(expected).all(|(term, (letters, coefficient))| {
-            term.word.letters() == *letters && term.coefficient == *coefficient
-        })
-}
-
-fn has_words(words: &[Word], expected: &[&[u8]]) -> bool {
+fn has_words(words: &[Word], expected: &[&str]) -> bool {
     words.len() == expected.len()
         && words
             .iter()
             .zip(expected)
-            .all(|(word, letters)| word.letters() == *letters)
+            .all(|(found, text)| *found == word(text))
+}
+
+/// Whether a combination has these terms, in this order.
+fn has_terms(comb: &Comb, expected: &[(&str, u32)]) -> bool {
+    let terms = comb.terms();
+    terms.len() == expected.len()
+        && terms.iter().zip(expected).all(|(term, (text, coefficient))| term.word == word(text)
+            && term.coefficient == *coefficient)
 }
 
 /// A candidate with the terms of its form.
-type Expected = (&'static [u8], &'static [(&'static [u8], u32)]);
+type Expected = (&'static str, &'static [(&'static str, u32)]);
 
 fn has_relations(relations: &[Relation], expected: &[Expected]) -> bool {
     relations.len() == expected.len()
-        && relations.iter().zip(expected).all(|(relation, (letters, form))| {
-            relation.candidate.letters() == *letters && has_terms(&relation.form, form)
-        })
+        && relations.iter().zip(expected).all(|(relation, (text, form))| relation.candidate
+            == word(text)
+            && has_terms(&relation.form, form))
 }
 
 /// Over the three transpositions with scalar -1, dimensions 1, 3, 4, 3.
@@ -66,24 +79,19 @@ fn degrees_over_the_three_transpositions(rt: HostRuntime) -> Result<(), Fail> {
         return Err("not three letters".into());
     }
     let none = plain_degree(rt.alloc(), &three, 0)?;
-    assert!(rt; has_words(none.basis.as_slice(), &[&[]]) && none.relations.is_empty());
+    assert!(rt; has_words(none.basis.as_slice(), &[""]) && none.relations.is_empty());
     let letters = plain_degree(rt.alloc(), &three, 1)?;
     assert!(rt;
-        has_words(letters.basis.as_slice(), &[&[1], &[2], &[3]]) && letters.relations.is_empty()
+        has_words(letters.basis.as_slice(), &["1", "2", "3"]) && letters.relations.is_empty()
     );
     let pairs = plain_degree(rt.alloc(), &three, 2)?;
-    assert!(rt;
-        has_words(
-            pairs.basis.as_slice(),
-            &[&[1, 2], &[1, 3], &[2, 1], &[2, 3]]
-        )
-    );
+    assert!(rt; has_words(pairs.basis.as_slice(), &["1.2", "1.3", "2.1", "2.3"]));
     let relations: [Expected; 5] = [
-        (&[1, 1], &[]),
-        (&[2, 2], &[]),
-        (&[3, 1], &[(&[1, 2], 100), (&[2, 3], 100)]),
-        (&[3, 2], &[(&[1, 3], 100), (&[2, 1], 100)]),
-        (&[3, 3], &[]),
+        ("1.1", &[]),
+        ("2.2", &[]),
+        ("3.1", &[("1.2", 100), ("2.3", 100)]),
+        ("3.2", &[("1.3", 100), ("2.1", 100)]),
+        ("3.3", &[]),
     ];
     assert!(rt; has_relations(pairs.relations.as_slice(), &relations));
     let triples = plain_degree(rt.alloc(), &three, 3)?;
@@ -101,11 +109,11 @@ fn degrees_over_one_letter(rt: HostRuntime) -> Result<(), Fail> {
     }
     let square = plain_degree(rt.alloc(), &minus, 2)?;
     assert!(rt; square.basis.is_empty());
-    assert!(rt; has_relations(square.relations.as_slice(), &[(&[1, 1], &[])]));
+    assert!(rt; has_relations(square.relations.as_slice(), &[("1.1", &[])]));
     let square = plain_degree(rt.alloc(), &two, 2)?;
-    assert!(rt; has_words(square.basis.as_slice(), &[&[1, 1]]) && square.relations.is_empty());
+    assert!(rt; has_words(square.basis.as_slice(), &["1.1"]) && square.relations.is_empty());
     let cube = plain_degree(rt.alloc(), &two, 3)?;
-    assert!(rt; has_relations(cube.relations.as_slice(), &[(&[1, 1, 1], &[])]));
+    assert!(rt; has_relations(cube.relations.as_slice(), &[("1.1.1", &[])]));
     Ok(())
 }
 
@@ -118,8 +126,8 @@ fn degrees_over_two_elements(rt: HostRuntime) -> Result<(), Fail> {
     }
     let pairs = plain_degree(rt.alloc(), &two, 2)?;
     assert_eq!(rt; pairs.degree, 2);
-    assert!(rt; has_words(pairs.basis.as_slice(), &[&[1, 2]]));
-    let relations: [Expected; 3] = [(&[1, 1], &[]), (&[2, 1], &[(&[1, 2], 1)]), (&[2, 2], &[])];
+    assert!(rt; has_words(pairs.basis.as_slice(), &["1.2"]));
+    let relations: [Expected; 3] = [("1.1", &[]), ("2.1", &[("1.2", 1)]), ("2.2", &[])];
     assert!(rt; has_relations(pairs.relations.as_slice(), &relations));
     Ok(())
 }

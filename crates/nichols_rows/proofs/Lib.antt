@@ -1,3 +1,3 @@
 pub mod Rows
-pub mod ReadingOf
+pub mod LoopsOverPlaces
 pub mod Split

@@ -18,14 +18,14 @@ use Rattle.nichols_echelon.specs.Split.{place_at, AllIndependent, IsPlace, IsSpl
 use Rattle.nichols_echelon.specs.declared.rows.Place.{Place}
 use Rattle.nichols_echelon.specs.declared.rows.Place.TheVariants.{Independent, Depends}
 use Rattle.nichols_echelon.proofs.Uniqueness.{place_independent}
-use Rattle.nichols_rows.specs.Made.{made}
-use Rattle.nichols_rows.specs.Reading.{independent_in, dependent_in, IsInside}
+use Rattle.nichols_rows.specs.CombinationAt.{combination_at}
+use Rattle.nichols_rows.specs.Places.{independent_in, dependent_in, IsInside}
 use Rattle.nichols_rows.proofs.Rows.{AreFunctionals, AllCellsLeast, below_more, independent_is_least, dependent_is_not_least, form_by_rows}
 
 -- what a place says of a word: it is least, or it isn't and has this normal form
 abbrev pub IsSaid : Vanishing → BraidValue → ℕ → List (List ℕ) → List ℕ → Place → Type 0
 IsSaid vanishes braid m all w Independent = is_least vanishes braid w ≡ true
-IsSaid vanishes braid m all w (Depends cells) = (is_least vanishes braid w ≡ false) × (normal_form vanishes braid m (single w) ≡ made all cells)
+IsSaid vanishes braid m all w (Depends cells) = (is_least vanishes braid w ≡ false) × (normal_form vanishes braid m (single w) ≡ combination_at all cells)
 
 -- ---- by row
 
@@ -33,7 +33,7 @@ IsSaid vanishes braid m all w (Depends cells) = (is_least vanishes braid w ≡ f
 abbrev pub HaveEntries : FieldValue → List (List Cell) → List (List ℕ) → (ℕ → List ℕ → ℕ) → Type 0
 HaveEntries k rows ws φ = (i column : ℕ) → i < length ws → entry k (row_at rows i) column ≡ φ column (word_at ws i)
 
-combined_as_weight : (k : FieldValue) (rows : List (List Cell)) (ws : List (List ℕ)) (φ : ℕ → List ℕ → ℕ) → HaveEntries k rows ws φ → (cells : List Cell) → AllBelow (length ws) cells → (column : ℕ) → combined k rows cells column ≡ weight k (φ column) (made ws cells)
+combined_as_weight : (k : FieldValue) (rows : List (List Cell)) (ws : List (List ℕ)) (φ : ℕ → List ℕ → ℕ) → HaveEntries k rows ws φ → (cells : List Cell) → AllBelow (length ws) cells → (column : ℕ) → combined k rows cells column ≡ weight k (φ column) (combination_at ws cells)
 unfolding combined weight
 combined_as_weight k rows ws φ entries [] below column = refl
 combined_as_weight k rows ws φ entries (c ∷ cells) below column = ap₂ (λ n r. plus k (times k c.coefficient n) r) (entries c.column column below.0) (combined_as_weight k rows ws φ entries cells below.1 column)
@@ -62,7 +62,7 @@ place_says vanishes braid is m l ws s φ functionals rows entries places each i 
   form_by_rows vanishes braid is m l ws s φ functionals i within cells h.combination.earlier h.combination.elements h.shape (all_least cells h.combination.earlier h.independent) same,
 )
   where
-    same : (column : ℕ) → φ column (word_at ws i) ≡ weight braid.field (φ column) (made ws cells)
+    same : (column : ℕ) → φ column (word_at ws i) ≡ weight braid.field (φ column) (combination_at ws cells)
     same column = sym (entries i column within) ∙ h.combination.value column ∙ combined_as_weight braid.field rows ws φ entries cells (below_more i (length ws) within cells h.combination.earlier) column
 
     all_least : (ds : List Cell) → AllBelow i ds → AllIndependent places ds → AllCellsLeast vanishes braid ws ds

@@ -1,2 +1,2 @@
-pub mod Made
-pub mod Reading
+pub mod CombinationAt
+pub mod Places

@@ -3,9 +3,9 @@
 //! `AllocError` says that there was no memory.
 #![tactic(auto)]
 
-mod reading;
+mod places;
 
-pub use reading::{independent_words, relations};
+pub use places::{independent_words, relations};
 
 #[cfg(test)]
 mod tests;

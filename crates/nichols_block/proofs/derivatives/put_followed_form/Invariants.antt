@@ -1,6 +1,6 @@
 use Rattle.std.proofs.Common.{◌≡◌, ◌++◌, take}
 use Rattle.nichols_tensor.specs.Combination.{scaled}
-use Rattle.nichols_block.specs.Forms.{followed_form}
+use Rattle.nichols_braid.specs.Forms.{followed_form}
 use Rattle.nichols_block.proofs.derivatives.put_followed_form.Given as goal
 
 abbrev pub invariant-loop-term : goal.invariant-loop-term

@@ -3,7 +3,7 @@ use Rattle.std.proofs.lemmas.List.Sorted.{answers_always}
 use Rattle.std.specs.Result.{OnOk}
 use Rattle.nichols_tensor.specs.Combination.{scaled}
 use Rattle.nichols_tensor.specs.Relation.{PlainRelation}
-use Rattle.nichols_block.specs.Forms.{form_in}
+use Rattle.nichols_braid.specs.Forms.{form_in}
 use Rattle.nichols_block.proofs.FormsOf.{form_found, form_missed, multiple_of_single}
 use Rattle.nichols_block.proofs.derivatives.put_form.Goals as goal
 

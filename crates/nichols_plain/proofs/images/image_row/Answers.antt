@@ -5,8 +5,8 @@ use Rattle.nichols_field.proofs.FieldLaws.{one_is_element}
 use Rattle.nichols_tensor.specs.Combination.{Term}
 use Rattle.nichols_tensor.specs.Words.{HasDegree}
 use Rattle.nichols_echelon.specs.Cells.{IsRow}
-use Rattle.nichols_plain.specs.Columns.{numbered}
-use Rattle.nichols_plain.proofs.Numbers.{numbered_is_row}
+use Rattle.nichols_plain.specs.Columns.{row_of}
+use Rattle.nichols_plain.proofs.Numbers.{row_of_is_row}
 use Rattle.nichols_plain.proofs.Steps.{row_is, row_elements, row_entries}
 use Rattle.nichols_plain.proofs.images.image_row.Goals.{After-drop-single-inside-2}
 use Rattle.nichols_plain.proofs.images.image_row.Goals as goal
@@ -25,13 +25,13 @@ column_of-requires-clause-columns c =
 
 pub of-requires : goal.of-requires
 of-requires c =
-    let cells : c.loop-term.cells.items ≡ numbered c.args.braid.now.letters c.in_ok-image.image =
+    let cells : c.loop-term.cells.items ≡ row_of c.args.braid.now.letters c.in_ok-image.image =
     row_is c.args.braid.now.letters 0 c.loop-term.cells.items c.terms-term-items.result.now c.in_ok-image.image c.loop-term.term-index c.terms-term-items.ensures.same c.loop-term-test.false c.loop-term.invariant in
     subst IsRow (sym cells)
-    (numbered_is_row c.args.braid.now.letters (length c.args.word.now) c.in_ok-image.image (c.in_ok-image.ensures.degree (length c.args.word.now) c.in_ok-single.ensures.degree) c.in_ok-image.ensures.letters
+    (row_of_is_row c.args.braid.now.letters (length c.args.word.now) c.in_ok-image.image (c.in_ok-image.ensures.degree (length c.args.word.now) c.in_ok-single.ensures.degree) c.in_ok-image.ensures.letters
     c.in_ok-image.ensures.shape.rising c.in_ok-image.ensures.shape.nonzero)
 
-row : (c : After-drop-single-inside-2) → c.of.result ≡ numbered c.args.braid.now.letters c.in_ok-image.image
+row : (c : After-drop-single-inside-2) → c.of.result ≡ row_of c.args.braid.now.letters c.in_ok-image.image
 row c =
     c.of.ensures
     ∙ row_is c.args.braid.now.letters 0 c.loop-term.cells.items c.terms-term-items.result.now c.in_ok-image.image c.loop-term.term-index c.terms-term-items.ensures.same c.loop-term-test.false c.loop-term.invariant

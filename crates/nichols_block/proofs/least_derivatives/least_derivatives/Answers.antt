@@ -1,6 +1,6 @@
 use Rattle.std.proofs.Common.{arith}
 use Rattle.nichols_block.proofs.Popped.{popped_pushed, popped_short}
-use Rattle.nichols_block.proofs.reading.least_derivatives.Goals as goal
+use Rattle.nichols_block.proofs.least_derivatives.least_derivatives.Goals as goal
 
 pub loop-own-preserved : goal.loop-own-preserved
 loop-own-preserved c = record {

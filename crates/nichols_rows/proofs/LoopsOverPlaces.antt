@@ -8,14 +8,14 @@ use Rattle.nichols_tensor.specs.Relation.{PlainRelation}
 use Rattle.nichols_echelon.specs.Cells.{Cell, IsRow, AllBelow}
 use Rattle.nichols_echelon.specs.declared.rows.Place.{Place}
 use Rattle.nichols_echelon.specs.declared.rows.Place.TheVariants.{Independent, Depends}
-use Rattle.nichols_rows.specs.Made.{made}
-use Rattle.nichols_rows.specs.Reading.{independent_in, dependent_in, IsInside}
-use Rattle.nichols_rows.proofs.Rows.{made_is_ordered}
+use Rattle.nichols_rows.specs.CombinationAt.{combination_at}
+use Rattle.nichols_rows.specs.Places.{independent_in, dependent_in, IsInside}
+use Rattle.nichols_rows.proofs.Rows.{combination_is_ordered}
 
 -- ---- combinations at positions
 
-pub form_is_ordered : (ws : List (List ℕ)) → IsRising ws → (cells : List Cell) (i : ℕ) (f : List _) → IsRow cells → AllBelow (length ws) cells → length cells ≤ i → f ≡ made ws (take i cells) → IsOrdered f
-form_is_ordered ws rising cells i f shape below past e = subst IsOrdered (sym (e ∙ ap (made ws) (take_all i cells past))) (made_is_ordered ws rising cells shape below)
+pub form_is_ordered : (ws : List (List ℕ)) → IsRising ws → (cells : List Cell) (i : ℕ) (f : List _) → IsRow cells → AllBelow (length ws) cells → length cells ≤ i → f ≡ combination_at ws (take i cells) → IsOrdered f
+form_is_ordered ws rising cells i f shape below past e = subst IsOrdered (sym (e ∙ ap (combination_at ws) (take_all i cells past))) (combination_is_ordered ws rising cells shape below)
 
 -- ---- entries with independent places
 
@@ -52,7 +52,7 @@ dependent_in-push all [] x [] p e = refl
 dependent_in-push all [] x (q ∷ ps) p e = absurd (omega arith)
 dependent_in-push all (y ∷ xs) x [] p e = absurd (omega arith)
 dependent_in-push all (y ∷ xs) x (Independent ∷ ps) p e = dependent_in-push all xs x ps p (omega arith)
-dependent_in-push all (y ∷ xs) x (Depends cells ∷ ps) p e = ap (λ (zs : List PlainRelation). record { candidate = y; form = made all cells } ∷ zs) (dependent_in-push all xs x ps p (omega arith))
+dependent_in-push all (y ∷ xs) x (Depends cells ∷ ps) p e = ap (λ (zs : List PlainRelation). record { candidate = y; form = combination_at all cells } ∷ zs) (dependent_in-push all xs x ps p (omega arith))
 
 dependent_more : (all xs : List (List ℕ)) (ps : List Place) (k : ℕ) (p : Place) → length ps ≡ length xs → k < length xs →
     dependent_in all (take (k + 1) xs) (take (k + 1) ps) ≡ dependent_in all (take k xs) (take k ps) ++ dependent_in all (word_at xs k ∷ []) (get_or ps k p ∷ [])

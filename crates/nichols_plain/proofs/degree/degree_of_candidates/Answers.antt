@@ -1,10 +1,10 @@
 use Rattle.std.proofs.Common.{◌∙◌, length, refl, sym, ap, subst}
 use Rattle.std.specs.List.{AllByRecursion}
-use Rattle.nichols_rows.specs.Reading.{independent_in, dependent_in, IsInside}
+use Rattle.nichols_rows.specs.Places.{independent_in, dependent_in, IsInside}
 use Rattle.nichols_rows.proofs.Split.{places_inside}
 use Rattle.nichols_plain.proofs.Steps.{candidates_have_columns, few_rows, candidates_are_rising}
-use Rattle.nichols_plain.proofs.Sorting.{AreSplit, sorted_basis, sorted_relations}
-use Rattle.nichols_plain.proofs.degree.sorted_out.Goals as goal
+use Rattle.nichols_plain.proofs.CandidatePlaces.{ArePlacesOf, basis_from_places, relations_from_places}
+use Rattle.nichols_plain.proofs.degree.degree_of_candidates.Goals as goal
 
 pub image_rows-requires : goal.image_rows-requires
 image_rows-requires c = candidates_have_columns c.args.braid.now c.args.degree c.args.words.now c.requires.words c.requires.degree c.requires.columns
@@ -23,12 +23,12 @@ relations-requires-clause-inside c =
 
 pub returns : goal.returns
 returns c =
-    let split : AreSplit c.args.braid.now c.args.degree c.args.words.now c.in_ok-rows.rows.items c.in_ok-places.places.items =
+    let split : ArePlacesOf c.args.braid.now c.args.degree c.args.words.now c.in_ok-rows.rows.items c.in_ok-places.places.items =
     record { braid_is = c.field-field.ensures.braid; words = c.requires.words; count = c.in_ok-rows.ensures.count; entries = c.in_ok-rows.ensures.entries; split = rw (← c.field-field.ensures.field, ← c.as_slice.ensures.value) c.in_ok-places.ensures } in
     record {
       degree = refl;
-      basis = c.in_ok-basis.ensures ∙ ap (independent_in c.args.words.now) c.as_slice-found.ensures.value ∙ sorted_basis c.args.braid.now c.args.degree c.args.words.now c.in_ok-rows.rows.items c.in_ok-places.places.items split;
+      basis = c.in_ok-basis.ensures ∙ ap (independent_in c.args.words.now) c.as_slice-found.ensures.value ∙ basis_from_places c.args.braid.now c.args.degree c.args.words.now c.in_ok-rows.rows.items c.in_ok-places.places.items split;
       relations =
           c.in_ok-relations.ensures ∙ ap (dependent_in c.args.words.now c.args.words.now) c.as_slice-found.ensures.value
-          ∙ sorted_relations c.args.braid.now c.args.degree c.args.words.now c.in_ok-rows.rows.items c.in_ok-places.places.items split;
+          ∙ relations_from_places c.args.braid.now c.args.degree c.args.words.now c.in_ok-rows.rows.items c.in_ok-places.places.items split;
     }

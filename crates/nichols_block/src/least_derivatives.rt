@@ -1,7 +1,7 @@
 //! The derivatives of the least words, by the places of the candidates' rows.
 
 ghost use Rattle.std.specs.Prelude.{◌≡◌, ◌++◌, ◌∷◌, IfOk, OnOk, [], length};
-ghost use Rattle.nichols_rows.specs.Reading.{independent_in};
+ghost use Rattle.nichols_rows.specs.Places.{independent_in};
 
 use crate::rule::Derivatives;
 use nichols_echelon::Place;

@@ -1,6 +1,6 @@
 use Rattle.std.proofs.Common.{arith}
-use Rattle.nichols_rows.proofs.ReadingOf.{related_more, inside_at}
-use Rattle.nichols_rows.proofs.reading.relations.Goals as goal
+use Rattle.nichols_rows.proofs.LoopsOverPlaces.{related_more, inside_at}
+use Rattle.nichols_rows.proofs.places.relations.Goals as goal
 
 pub push_relation-requires-clause-inside : goal.push_relation-requires-clause-inside
 push_relation-requires-clause-inside c = inside_at _ c.args.places.now c.loop-k.k c.index-places-k.result c.requires.inside (omega arith) c.index-places-k.is

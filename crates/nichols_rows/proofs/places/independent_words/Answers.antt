@@ -1,7 +1,7 @@
 use Rattle.std.proofs.Common.{[], arith, ap, ◌∙◌}
-use Rattle.nichols_rows.proofs.ReadingOf.{kept_more, skipped_more}
-use Rattle.nichols_rows.proofs.reading.independent_words.Goals.{in-Independent+in_ok-push, in_default}
-use Rattle.nichols_rows.proofs.reading.independent_words.Goals as goal
+use Rattle.nichols_rows.proofs.LoopsOverPlaces.{kept_more, skipped_more}
+use Rattle.nichols_rows.proofs.places.independent_words.Goals.{in-Independent+in_ok-push, in_default}
+use Rattle.nichols_rows.proofs.places.independent_words.Goals as goal
 
 pub loop-k-preserved : goal.loop-k-preserved
 loop-k-preserved c =

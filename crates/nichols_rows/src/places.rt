@@ -3,9 +3,9 @@
 ghost use Rattle.std.specs.Prelude.{◌≡◌, ◌++◌, ◌∷◌, IfOk, OnOk, [], length};
 ghost use Rattle.std.specs.List.{AllByRecursion};
 ghost use Rattle.nichols_tensor.specs.WordOrder.{IsRising};
-ghost use Rattle.nichols_rows.specs.Made.{made};
+ghost use Rattle.nichols_rows.specs.CombinationAt.{combination_at};
 ghost use Rattle.nichols_echelon.specs.Cells.{AllBelow, IsRow};
-ghost use Rattle.nichols_rows.specs.Reading.{IsInside, dependent_in, independent_in};
+ghost use Rattle.nichols_rows.specs.Places.{IsInside, dependent_in, independent_in};
 
 use nichols_echelon::{Cell, Place};
 use nichols_words::{Comb, Relation, Term, Word};
@@ -16,7 +16,7 @@ fn form_of(alloc: Global, words: &[Word], cells: &[Cell]) -> Result<Comb, AllocE
     requires rising { IsRising words.now }
     requires shape { IsRow cells.now }
     requires inside { AllBelow (length words.now) cells.now }
-    ensures { IfOk result (λ r. r ≡ made words.now cells.now) }
+    ensures { IfOk result (λ r. r ≡ combination_at words.now cells.now) }
 {
     let mut terms = Vec::new(alloc);
     for cell in cells {

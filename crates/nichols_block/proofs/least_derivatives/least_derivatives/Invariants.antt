@@ -1,6 +1,6 @@
 use Rattle.std.proofs.Common.{◌≡◌, ◌++◌, ◌≤◌, take, length, reverse, vec_len}
-use Rattle.nichols_rows.specs.Reading.{independent_in}
-use Rattle.nichols_block.proofs.reading.least_derivatives.Given as goal
+use Rattle.nichols_rows.specs.Places.{independent_in}
+use Rattle.nichols_block.proofs.least_derivatives.least_derivatives.Given as goal
 
 abbrev pub invariant-loop-own : goal.invariant-loop-own
 invariant-loop-own l = record {

@@ -1,7 +1,7 @@
 -- What the places of rows say of the words that have the rows.
 use Rattle.std.specs.Prelude.{ℕ, List, [], ◌∷◌}
 use Rattle.nichols_tensor.specs.Relation.{PlainRelation}
-use Rattle.nichols_rows.specs.Made.{made}
+use Rattle.nichols_rows.specs.CombinationAt.{combination_at}
 use Rattle.nichols_echelon.specs.Cells.{AllBelow}
 use Rattle.nichols_echelon.specs.declared.rows.Place.{Place}
 use Rattle.nichols_echelon.specs.declared.rows.Place.TheVariants.{Independent, Depends}
@@ -18,7 +18,7 @@ abbrev pub dependent_in : List (List ℕ) → List (List ℕ) → List Place →
 dependent_in all [] places = []
 dependent_in all (w ∷ ws) [] = []
 dependent_in all (w ∷ ws) (Independent ∷ places) = dependent_in all ws places
-dependent_in all (w ∷ ws) (Depends cells ∷ places) = record { candidate = w; form = made all cells } ∷ dependent_in all ws places
+dependent_in all (w ∷ ws) (Depends cells ∷ places) = record { candidate = w; form = combination_at all cells } ∷ dependent_in all ws places
 
 -- a place names positions below a bound alone
 abbrev pub IsInside : ℕ → Place → Type 0
