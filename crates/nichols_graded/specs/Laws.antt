@@ -1,14 +1,15 @@
 -- What the laws of this crate say.
-use Rattle.std.specs.Prelude.{◌≡◌, ℕ, ◌+◌, ◌≤◌, None, Some, if◌then◌else◌, length, nat_eq}
+use Rattle.std.specs.Prelude.{◌≡◌, ℕ, suc, ◌≤◌, Some, option_map, if◌then◌else◌}
+use Rattle.std.specs.List.{Contains}
+use Rattle.nichols_braid.specs.declared.TheConstants.{MOST_DEGREES}
 use Rattle.nichols_braid.specs.Braid.{BraidValue}
 use Rattle.nichols_braid.specs.Kernel.{is_in_kernel}
-use Rattle.nichols_braid.specs.End.{finished, is_closed}
-use Rattle.nichols_graded.specs.Graded.{AreFilledBelow, end_at}
+use Rattle.nichols_braid.specs.End.{is_empty_degree}
+use Rattle.nichols_graded.specs.Ends.{finished_degrees, limit_stops, end_reached}
 use Rattle.nichols_graded.specs.declared.ends.End.TheVariants.{Closed, Stopped}
-use Rattle.nichols_graded.specs.declared.ends.Stop.TheVariants.{DegreeLimit}
 
--- the end comes with the last finished degree, and is Closed exactly where the algebra is closed
+-- after a finished degree the end is reached exactly where it is empty, and the algebra is closed, or where something stops the next one
 abbrev pub EndIsReached : Type 0
 EndIsReached =
-    (braid : BraidValue) (limit m : ℕ) → m ≤ limit → AreFilledBelow braid m →
-    end_at braid limit m ≡ (if nat_eq (length (finished is_in_kernel braid limit)) (m + 1) then Some (if is_closed is_in_kernel braid limit then Closed else Stopped DegreeLimit) else None)
+    (braid : BraidValue) (limit m : ℕ) → limit ≤ MOST_DEGREES → Contains (finished_degrees braid limit) m →
+    end_reached braid limit m ≡ (if is_empty_degree is_in_kernel braid m then Some Closed else option_map Stopped (limit_stops limit (suc m)))

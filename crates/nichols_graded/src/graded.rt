@@ -1,10 +1,13 @@
 //! Graded algebras.
 
-ghost use Rattle.std.specs.Prelude.{◌≡◌, ◌≤◌, ◌<◌, ◌^◌, IfOk, OnOk, OnErr, false};
+ghost use Rattle.std.specs.Prelude.{◌≡◌, ◌≤◌, ◌<◌, ◌+◌, ◌^◌, IfOk, OnOk, OnErr, None, false, is_some};
+ghost use Rattle.std.specs.List.{Contains};
+ghost use Rattle.nichols_braid.specs.declared.TheConstants.{MOST_DEGREES};
 ghost use Rattle.nichols_braid.specs.Kernel.{is_in_kernel};
 ghost use Rattle.nichols_braid.specs.Least.{basis, relations};
-ghost use Rattle.nichols_braid.specs.End.{dimension, most_degrees};
-ghost use Rattle.nichols_graded.specs.Graded.{started, step, advanced, end_at, IsGraded};
+ghost use Rattle.nichols_braid.specs.End.{dimension};
+ghost use Rattle.nichols_graded.specs.Ends.{finished_degrees, end_reached};
+ghost use Rattle.nichols_graded.specs.Graded.{first_degree, IsGraded};
 
 use crate::ends::{Advance, End, Stop};
 use nichols_block::{Levels, make_degree};
@@ -22,20 +25,20 @@ pub struct Graded {
 }
 
 impl Model for Graded {
-    ghost use Rattle.nichols_graded.specs.Graded.{GradedValue, IsGraded};
+    ghost use Rattle.nichols_graded.specs.Graded.{GradedValue, IsGraded, graded_value};
 
     ghost Value = { GradedValue };
 
-    ghost view = { λ g. record { braid = g.levels.braid; limit = g.degree_limit; last = g.levels.last; ended = g.ended } };
+    ghost view = { λ g. graded_value g.levels g.degree_limit g.ended };
 
-    ghost invariant = { λ g. IsGraded (record { braid = g.levels.braid; limit = g.degree_limit; last = g.levels.last; ended = g.ended }) };
+    ghost invariant = { λ g. IsGraded (graded_value g.levels g.degree_limit g.ended) };
 }
 
 impl Graded {
     /// The algebra of a braid with degree 0 finished; the degree limit is at most 60.
     pub fn start(alloc: Global, braid: Braid, degree_limit: u32) -> Result<Graded, AllocError>
-        requires { degree_limit ≤ most_degrees }
-        ensures { IfOk result (λ g. g ≡ started braid degree_limit) }
+        requires { degree_limit ≤ MOST_DEGREES }
+        ensures { IfOk result (λ g. g ≡ first_degree braid degree_limit) }
     {
         let _field = braid.field();
         let levels = Levels::start(alloc, braid)?;
@@ -48,12 +51,17 @@ impl Graded {
 
     /// Finishes the next degree, where the degree limit allows it, and says whether the end is reached.
     ///
-    /// After an error the algebra is as it was, and the call may be made again.
+    /// The end is given in the call in which the last degree is finished; under the limit 0, where degree 0 is the only one,
+    /// in the first call. After an error the algebra is as it was, and the call may be made again.
     pub fn advance(&mut self, alloc: Global) -> Result<Advance, AllocError>
         requires { self.old.ended ≡ false }
-        ensures advanced { OnOk result (self.new ≡ advanced self.old) }
-        ensures finished { IfOk result (λ a. a.finished ≡ step self.old) }
-        ensures end { IfOk result (λ a. a.end ≡ end_at self.new.braid self.new.limit self.new.last) }
+        ensures braid { OnOk result (self.new.braid ≡ self.old.braid) }
+        ensures limit { OnOk result (self.new.limit ≡ self.old.limit) }
+        ensures finished { IfOk result (λ a. self.new.last ≡ self.old.last + a.finished) }
+        ensures one { IfOk result (λ a. a.finished ≤ 1) }
+        ensures further { IfOk result (λ a. a.end ≡ None → a.finished ≡ 1) }
+        ensures end { IfOk result (λ a. a.end ≡ end_reached self.new.braid self.new.limit self.new.last) }
+        ensures ended { IfOk result (λ a. self.new.ended ≡ is_some a.end) }
         ensures kept { OnErr result (self.new ≡ self.old) }
     {
         let last = self.levels.last();
@@ -66,7 +74,7 @@ impl Graded {
         }
         let rule = make_degree(alloc, self.levels.braid(), self.levels.rule(last))?;
         self.levels.push(rule)?;
-        let end = reached(&self.levels, self.degree_limit);
+        let end = end_of_levels(&self.levels, self.degree_limit);
         self.ended = end.is_some();
         Ok(Advance { finished: 1, end })
     }
@@ -93,29 +101,31 @@ impl Graded {
         ensures value { result ≡ dimension is_in_kernel self.now.braid m }
         ensures small { result < 2 ^ 57 }
     {
-        self.levels.rule(m).basis.as_slice().len() as u64
+        self.basis(m).len() as u64
     }
 
     /// The least words of a finished degree, rising.
-    pub fn basis(&self, alloc: Global, m: u32) -> Result<Vec<Word>, AllocError>
+    pub fn basis(&self, m: u32) -> &[Word]
         requires { m ≤ self.now.last }
-        ensures { IfOk result (λ r. r.items ≡ basis is_in_kernel self.now.braid m) }
+        ensures { result.now ≡ basis is_in_kernel self.now.braid m }
     {
-        copied(alloc, self.levels.rule(m).basis.as_slice())
+        self.levels.rule(m).basis.as_slice()
     }
 
     /// The relations of a finished degree, with rising candidates.
-    pub fn relations(&self, alloc: Global, m: u32) -> Result<Vec<Relation>, AllocError>
+    pub fn relations(&self, m: u32) -> &[Relation]
         requires { m ≤ self.now.last }
-        ensures { IfOk result (λ r. r.items ≡ relations is_in_kernel self.now.braid m) }
+        ensures { result.now ≡ relations is_in_kernel self.now.braid m }
     {
-        copies(alloc, self.levels.rule(m).table.as_slice())
+        self.levels.rule(m).table.as_slice()
     }
 }
 
-/// The end that the levels have reached under a degree limit, where no degree but the last may be empty.
-fn reached(levels: &Levels, degree_limit: u32) -> Option<End>
-    ensures { result ≡ end_at levels.now.braid degree_limit levels.now.last }
+/// The end that the levels have reached under a degree limit.
+fn end_of_levels(levels: &Levels, degree_limit: u32) -> Option<End>
+    requires limit { degree_limit ≤ MOST_DEGREES }
+    requires finished { Contains (finished_degrees levels.now.braid degree_limit) levels.now.last }
+    ensures { result ≡ end_reached levels.now.braid degree_limit levels.now.last }
 {
     let _field = levels.braid().field();
     if levels.closed() {
@@ -125,26 +135,4 @@ fn reached(levels: &Levels, degree_limit: u32) -> Option<End>
         return Some(End::Stopped(Stop::DegreeLimit));
     }
     None
-}
-
-/// The same words in memory of their own.
-fn copied(alloc: Global, words: &[Word]) -> Result<Vec<Word>, AllocError>
-    ensures { IfOk result (λ r. r.items ≡ words.now) }
-{
-    let mut out = Vec::with_capacity(alloc, words.len())?;
-    for word in words {
-        out.push(*word)?;
-    }
-    Ok(out)
-}
-
-/// Equal relations in memory of their own.
-fn copies(alloc: Global, relations: &[Relation]) -> Result<Vec<Relation>, AllocError>
-    ensures { IfOk result (λ r. r.items ≡ relations.now) }
-{
-    let mut out = Vec::with_capacity(alloc, relations.len())?;
-    for relation in relations {
-        out.push(relation.copy(alloc)?)?;
-    }
-    Ok(out)
 }

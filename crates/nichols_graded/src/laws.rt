@@ -2,7 +2,8 @@
 
 ghost use Rattle.nichols_graded.specs.Laws.{EndIsReached};
 
-/// The end comes with the last finished degree, and not before. It is `Closed` exactly where the algebra is closed.
+/// After a finished degree the end is reached exactly where that degree is empty, and the algebra is closed, or where something
+/// stops the next one.
 #[tactic(auto, using(crate::proofs::EndLaws::end_is_reached))]
 pub fn end_is_reached()
     ensures { EndIsReached }

@@ -1,12 +1,10 @@
 use Rattle.std.proofs.Common.{◌∙◌, ap}
-use Rattle.std.proofs.lemmas.Result.{IfOk-weaker}
 use Rattle.nichols_braid.specs.Kernel.{is_in_kernel}
 use Rattle.nichols_braid.specs.Least.{relations}
-use Rattle.nichols_graded.proofs.Reached.{rule_relations}
+use Rattle.nichols_graded.proofs.FinishedDegrees.{rule_relations}
 use Rattle.nichols_graded.proofs.graded.Graded.relations.Goals as goal
 
 pub returns : goal.returns
 returns c =
     let rule = rule_relations c.self.inside.levels.braid c.self.invariant.braid c.args.m c.rule.result.now c.rule.ensures.rule in
-    let items = c.as_slice.ensures.value ∙ ap (λ r. r.table) c.behind-self.view_is ∙ rule ∙ ap (λ g. relations is_in_kernel g.braid c.args.m) c.self.view_is in
-    IfOk-weaker c.copies.result _ _ (λ r h. h ∙ items) c.copies.ensures
+    c.as_slice.ensures.value ∙ ap (λ r. r.table) c.behind-self.view_is ∙ rule ∙ ap (λ g. relations is_in_kernel g.braid c.args.m) c.self.view_is

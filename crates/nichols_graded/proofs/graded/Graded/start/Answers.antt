@@ -1,6 +1,6 @@
 use Rattle.std.proofs.Common.{ap, sym, subst}
 use Rattle.nichols_braid.specs.Braid.{IsBraid}
-use Rattle.nichols_graded.proofs.Reached.{graded_start}
+use Rattle.nichols_graded.proofs.FinishedDegrees.{graded_start}
 use Rattle.nichols_graded.proofs.graded.Graded.start.Goals as goal
 
 pub invariant_of-result : goal.invariant_of-result
