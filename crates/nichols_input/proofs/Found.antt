@@ -3,7 +3,7 @@ use Rattle.std.proofs.Common.{◌≡◌, ap, ℕ, Bool, true, false, List, Optio
 use Rattle.std.specs.Str.{IsUtf8, is_utf8}
 use Rattle.std.proofs.lemmas.Str.{IsUtf8-from_is_utf8, is_utf8-from_IsUtf8}
 use Rattle.nichols_input.specs.Document.{table_in, braid_of_found, braid_of_table, braid_in}
-use Rattle.nichols_input.specs.declared.faults.InputFault.TheVariants.{Unbuilt}
+use Rattle.nichols_input.specs.Refusal.{unbuilt}
 use Rattle.toml.specs.Data.{Members}
 use Rattle.toml.specs.Parse.{parse_document}
 
@@ -15,6 +15,6 @@ none_unless : (b : Bool) (o : Option Members) → (b ≡ true → o ≡ None) �
 none_unless true o none = none refl
 none_unless false o none = refl
 
-pub refused_table : (bytes : List ℕ) → (IsUtf8 bytes → parse_document bytes ≡ None) → braid_in bytes ≡ Err Unbuilt
+pub refused_table : (bytes : List ℕ) → (IsUtf8 bytes → parse_document bytes ≡ None) → braid_in bytes ≡ Err unbuilt
 unfolding braid_in table_in
 refused_table bytes none = ap braid_of_found (none_unless (is_utf8 bytes) (parse_document bytes) (λ t. none (IsUtf8-from_is_utf8 bytes t)))

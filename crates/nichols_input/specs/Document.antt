@@ -4,12 +4,10 @@ use Rattle.std.specs.List.{list_any}
 use Rattle.std.specs.Str.{bytes_eq, is_utf8}
 use Rattle.nichols_field.specs.Field.{prime_field, is_modulus_integer}
 use Rattle.nichols_braid.specs.Braid.{BraidValue}
-use Rattle.nichols_braid.specs.Faults.{GivenScalars, braid_of}
-use Rattle.nichols_braid.specs.declared.faults.BraidFault.{BraidFault}
-use Rattle.nichols_braid.specs.declared.faults.BraidFault.TheVariants as braid_fault
+use Rattle.nichols_braid.specs.GivenScalars.{GivenScalars}
+use Rattle.nichols_braid.specs.Faults.{TableFault, braid_of}
 use Rattle.nichols_input.specs.Shapes.{as_rows, as_scalars}
-use Rattle.nichols_input.specs.declared.faults.InputFault.{InputFault}
-use Rattle.nichols_input.specs.declared.faults.InputFault.TheVariants.{NotDistributive, Unbuilt, Memory}
+use Rattle.nichols_input.specs.Refusal.{Refusal, tables, unbuilt}
 use Rattle.toml.specs.Data.{Data, Members, no_members, member, get_member, as_integer}
 use Rattle.toml.specs.Parse.{parse_document}
 
@@ -34,30 +32,24 @@ value_at shape key ms = option_and_then shape (get_member key ms)
 
 -- ---- the braid
 
--- why a document has no braid, where rows and scalars aren't one
-abbrev pub input_fault : BraidFault → InputFault
-input_fault (braid_fault.NotDistributive i j k left right) = NotDistributive i j k left right
-input_fault braid_fault.Unbuilt = Unbuilt
-input_fault braid_fault.Memory = Memory
-
--- the fault, as one of a document
-abbrev pub as_input : Result BraidValue BraidFault → Result BraidValue InputFault
-as_input (Ok braid) = Ok braid
-as_input (Err fault) = Err (input_fault fault)
+-- the braid of rows and scalars, or the refusal
+abbrev pub unless_refused : Result BraidValue TableFault → Result BraidValue Refusal
+unless_refused (Ok braid) = Ok braid
+unless_refused (Err fault) = Err (tables fault)
 
 -- the braid over the field of p elements, where there is one, with these rows and scalars
-abbrev pub braid_over : ℤ → List (List ℤ) → GivenScalars → Result BraidValue InputFault
-braid_over p rows scalars = if is_modulus_integer p then as_input (braid_of (prime_field p) rows scalars) else Err Unbuilt
+abbrev pub braid_over : ℤ → List (List ℤ) → GivenScalars → Result BraidValue Refusal
+braid_over p rows scalars = if is_modulus_integer p then unless_refused (braid_of (prime_field p) rows scalars) else Err unbuilt
 
 -- the braid of what stands at the three keys, where each is there
-abbrev pub braid_of_parts : Option ℤ → Option (List (List ℤ)) → Option GivenScalars → Result BraidValue InputFault
+abbrev pub braid_of_parts : Option ℤ → Option (List (List ℤ)) → Option GivenScalars → Result BraidValue Refusal
 braid_of_parts (Some p) (Some rows) (Some scalars) = braid_over p rows scalars
-braid_of_parts _ _ _ = Err Unbuilt
+braid_of_parts _ _ _ = Err unbuilt
 
 -- the braid of a table, which has the three keys and no others
-unfoldable pub braid_of_table : Members → Result BraidValue InputFault
+unfoldable pub braid_of_table : Members → Result BraidValue Refusal
 braid_of_table ms =
-    if is_some (unknown_key ms) then Err Unbuilt
+    if is_some (unknown_key ms) then Err unbuilt
     else braid_of_parts (value_at as_integer (codes "modulus") ms) (value_at as_rows (codes "rack") ms) (value_at as_scalars (codes "cocycle") ms)
 
 -- the top table of a document, where its bytes are UTF-8 and TOML
@@ -65,10 +57,10 @@ unfoldable pub table_in : List ℕ → Option Members
 table_in bytes = if is_utf8 bytes then parse_document bytes else None
 
 -- the braid of a top table, where there is one
-abbrev pub braid_of_found : Option Members → Result BraidValue InputFault
-braid_of_found None = Err Unbuilt
+abbrev pub braid_of_found : Option Members → Result BraidValue Refusal
+braid_of_found None = Err unbuilt
 braid_of_found (Some ms) = braid_of_table ms
 
 -- the braid of a document, or why it has none
-unfoldable pub braid_in : List ℕ → Result BraidValue InputFault
+unfoldable pub braid_in : List ℕ → Result BraidValue Refusal
 braid_in bytes = braid_of_found (table_in bytes)

@@ -1,8 +1,13 @@
 -- The shapes that values of a document may have.
-use Rattle.std.specs.Prelude.{ℤ, List, [], Option, Some, option_map, option_and_then}
+use Rattle.std.specs.Prelude.{ℤ, List, [], ◌∷◌, Option, None, Some, option_map, option_and_then}
 use Rattle.std.specs.Option.{option_or}
-use Rattle.nichols_braid.specs.Faults.{GivenScalars, constant, table, put_first}
+use Rattle.nichols_braid.specs.GivenScalars.{GivenScalars, constant, table}
 use Rattle.toml.specs.Data.{Data, Items, no_items, item, as_integer, as_array}
+
+-- one more in front, where both are there
+abbrev pub put_first : {X : Type 0} → Option X → Option (List X) → Option (List X)
+put_first None rest = None
+put_first (Some x) rest = option_map (λ xs. x ∷ xs) rest
 
 -- the integers among which each item is one
 abbrev pub integers_in : Items → Option (List ℤ)

@@ -1,7 +1,8 @@
 //! A document's braid.
 
-ghost use Rattle.std.specs.Prelude.{◌≡◌, ◌⊎◌, Ok, Err, MatchResult};
+ghost use Rattle.std.specs.Prelude.{◌≡◌, Ok, Err, MatchResult, IfSome};
 ghost use Rattle.nichols_input.specs.Document.{braid_in, braid_of_table};
+ghost use Rattle.nichols_input.specs.Refusal.{refusal_of};
 ghost use Rattle.toml.specs.View.{table_view};
 
 use crate::faults::InputFault;
@@ -15,14 +16,13 @@ use toml::Table;
 /// integers, and `cocycle`, an integer or an array of arrays of integers, and with no others.
 ///
 /// Row i of `rack` has the letter `i ▷ j` at place j, and row i of `cocycle` the scalar `q(i, j)`; an
-/// integer alone stands at every place. `NotDistributive` comes where the rows are a table of bijections
-/// against that law, `Unbuilt` where the document has no braid for another cause, and `Memory` for want
-/// of memory.
+/// integer alone stands at every place. `Braid` comes where rows and scalars over the field of the modulus
+/// aren't a braid, `Unbuilt` where the document has none for another cause, and `Memory` for want of memory.
 #[tactic(auto, using(crate::proofs::Found::read_table, crate::proofs::Found::refused_table))]
 pub fn read_braid(alloc: Global, bytes: &[u8]) -> Result<Braid, InputFault>
     ensures { MatchResult result
         (λ b. braid_in bytes.now ≡ Ok b)
-        (λ e. (e ≡ InputFault.Memory) ⊎ (braid_in bytes.now ≡ Err e)) }
+        (λ fault. IfSome (refusal_of fault) (λ refusal. braid_in bytes.now ≡ Err refusal)) }
 {
     match toml::table_from_slice(alloc, bytes) {
         Ok(table) => braid_of_table(alloc, &table),
@@ -40,7 +40,7 @@ pub fn read_braid(alloc: Global, bytes: &[u8]) -> Result<Braid, InputFault>
 fn braid_of_table(alloc: Global, table: &Table) -> Result<Braid, InputFault>
     ensures { MatchResult result
         (λ b. braid_of_table (table_view table.now) ≡ Ok b)
-        (λ e. (e ≡ InputFault.Memory) ⊎ (braid_of_table (table_view table.now) ≡ Err e)) }
+        (λ fault. IfSome (refusal_of fault) (λ refusal. braid_of_table (table_view table.now) ≡ Err refusal)) }
 {
     if unknown_key(table).is_some() {
         return Err(InputFault::Unbuilt);

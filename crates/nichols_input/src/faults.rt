@@ -1,19 +1,19 @@
 //! Why a document has no braid.
 
-ghost use Rattle.nichols_input.specs.Document.{input_fault};
-ghost use Rattle.nichols_input.specs.declared.faults.InputFault.TheVariants.{Memory};
+ghost use Rattle.nichols_input.specs.declared.faults.InputFault.TheVariants.{Braid, Memory};
 ghost use Rattle.std.specs.Prelude.{◌≡◌};
 
 use nichols_braid::BraidFault;
 use std::alloc::AllocError;
+use std::error::Error;
+use std::fmt;
 
-/// Why a document has no braid; letters count from 1.
+/// Why a document has no braid.
 #[derive(Clone, Copy, Debug, PartialEq, Eq)]
 pub enum InputFault {
-    /// At letters i, j, k the letter `i ▷ (j ▷ k)`, fourth, isn't `(i ▷ j) ▷ (i ▷ k)`, fifth.
-    /// The triple is the first one in lexicographic order.
-    NotDistributive(u8, u8, u8, u8, u8),
-    /// The bytes are no TOML, a key is missing, surplus or of a wrong kind, or the values are no field or no braid.
+    /// The rows and the scalars aren't a braid.
+    Braid(BraidFault),
+    /// The bytes are no TOML, a key is missing, surplus or of a wrong kind, or the modulus is no field's.
     Unbuilt,
     /// Want of memory.
     Memory,
@@ -28,15 +28,21 @@ impl From<AllocError> for InputFault {
 }
 
 impl From<BraidFault> for InputFault {
-    ghost from_gives = { λ fault input. input ≡ input_fault fault };
+    ghost from_gives = { λ fault input. input ≡ Braid fault };
 
     fn from(fault: BraidFault) -> InputFault {
-        match fault {
-            BraidFault::NotDistributive(i, j, k, left, right) => {
-                InputFault::NotDistributive(i, j, k, left, right)
-            }
-            BraidFault::Unbuilt => InputFault::Unbuilt,
-            BraidFault::Memory => InputFault::Memory,
+        InputFault::Braid(fault)
+    }
+}
+
+impl fmt::Display for InputFault {
+    fn fmt<W: fmt::Write>(&self, f: &mut fmt::Formatter<W>) -> fmt::Result {
+        match self {
+            InputFault::Braid(cause) => write!(f, "{cause}"),
+            InputFault::Unbuilt => write!(f, "the document has no braid"),
+            InputFault::Memory => write!(f, "there was no memory for the document"),
         }
     }
 }
+
+impl Error for InputFault {}

@@ -1,7 +1,7 @@
 //! The keys of a document.
 
 ghost use Rattle.std.specs.Prelude.{◌≡◌, IfOk, map, option_copied, option_map};
-ghost use Rattle.nichols_braid.specs.Given.{given};
+ghost use Rattle.nichols_braid.specs.GivenScalars.{given_scalars};
 ghost use Rattle.nichols_input.specs.Document.{is_known, unknown_key, value_at};
 ghost use Rattle.nichols_input.specs.Shapes.{as_rows, as_scalars};
 ghost use Rattle.toml.specs.Data.{as_integer, get_member};
@@ -69,7 +69,7 @@ pub(crate) fn scalars_at(
     table: &Table,
     key: &str,
 ) -> Result<Option<Scalars>, AllocError>
-    ensures { IfOk result (λ r. option_map given r ≡ value_at as_scalars key.now (table_view table.now)) }
+    ensures { IfOk result (λ r. option_map given_scalars r ≡ value_at as_scalars key.now (table_view table.now)) }
 {
     match find(table, key) {
         Some(value) => as_scalars(alloc, value),

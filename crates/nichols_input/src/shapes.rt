@@ -1,7 +1,7 @@
 //! Values of a document, read by their shapes.
 
 ghost use Rattle.std.specs.Prelude.{◌≡◌, IfOk, map, option_map};
-ghost use Rattle.nichols_braid.specs.Given.{given};
+ghost use Rattle.nichols_braid.specs.GivenScalars.{given_scalars};
 ghost use Rattle.nichols_input.specs.Shapes.{as_integers, as_rows, as_scalars};
 ghost use Rattle.toml.specs.View.{view};
 
@@ -45,7 +45,7 @@ pub(crate) fn as_rows(alloc: Global, value: &Value) -> Result<Option<Vec<Vec<i64
 
 /// An integer, which stands at every place, or else an array of arrays of integers.
 pub(crate) fn as_scalars(alloc: Global, value: &Value) -> Result<Option<Scalars>, AllocError>
-    ensures { IfOk result (λ r. option_map given r ≡ as_scalars (view value.now)) }
+    ensures { IfOk result (λ r. option_map given_scalars r ≡ as_scalars (view value.now)) }
 {
     if let Some(v) = value.as_integer() {
         return Ok(Some(Scalars::Constant(v)));

@@ -1,4 +1,5 @@
 use super::*;
+use nichols_braid::BraidFault;
 use std::test::Fail;
 
 const MODULUS: &str = "modulus = 101\n";
@@ -36,7 +37,7 @@ const DOCUMENTS: [(&[u8], Option<InputFault>); 21] = [
     (b"modulus = 7\nrack = [[1]]\ncocycle = [[2]]\n", None),
     (
         b"modulus = 101\nrack = [[1, 2], [2, 1]]\ncocycle = 1\n",
-        Some(InputFault::NotDistributive(2, 1, 1, 2, 1)),
+        Some(InputFault::Braid(BraidFault::NotDistributive(2, 1, 1, 2, 1))),
     ),
     (b"", UNBUILT),
     (b"rack = [[1]]\ncocycle = 2\n", UNBUILT),
@@ -57,10 +58,19 @@ const DOCUMENTS: [(&[u8], Option<InputFault>); 21] = [
     (b"modulus = 7.0\nrack = [[1]]\ncocycle = 2\n", UNBUILT),
     (b"modulus = 7\nrack = [1]\ncocycle = 2\n", UNBUILT),
     (b"modulus = 7\nrack = [['1']]\ncocycle = 2\n", UNBUILT),
-    (b"modulus = 7\nrack = []\ncocycle = 2\n", UNBUILT),
+    (
+        b"modulus = 7\nrack = []\ncocycle = 2\n",
+        Some(InputFault::Braid(BraidFault::Letters(0))),
+    ),
     (b"modulus = 7\nrack = [[1]]\ncocycle = [2]\n", UNBUILT),
-    (b"modulus = 7\nrack = [[1]]\ncocycle = []\n", UNBUILT),
-    (b"modulus = 7\nrack = [[1]]\ncocycle = 7\n", UNBUILT),
+    (
+        b"modulus = 7\nrack = [[1]]\ncocycle = []\n",
+        Some(InputFault::Braid(BraidFault::CocycleShape(1))),
+    ),
+    (
+        b"modulus = 7\nrack = [[1]]\ncocycle = 7\n",
+        Some(InputFault::Braid(BraidFault::CocycleZero(1, 1))),
+    ),
 ];
 
 #[test]

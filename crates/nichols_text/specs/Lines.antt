@@ -11,12 +11,6 @@ read_fault_text = codes "read fault\n"
 unfoldable pub not_built_text : List ℕ
 not_built_text = codes "not built\n"
 
--- `refused: not distributive at <i> <j> <k>: <left> and <right>`
-unfoldable pub not_distributive_text : ℕ → ℕ → ℕ → ℕ → ℕ → List ℕ
-not_distributive_text i j k left right =
-    codes "refused: not distributive at " ++ decimal i ++ codes " " ++ decimal j ++ codes " " ++ decimal k
-    ++ codes ": " ++ decimal left ++ codes " and " ++ decimal right ++ codes "\n"
-
 -- `memory last <m>` with the last degree whose piece was taken, or `memory last none`
 unfoldable pub memory_text : Option ℕ → List ℕ
 memory_text None = codes "memory last none\n"

@@ -1,6 +1,6 @@
 //! The piece of a degree.
 
-ghost use Rattle.std.specs.Prelude.{◌≡◌, ◌++◌, IfOk, OnOk, length, ◌<◌, ◌^◌};
+ghost use Rattle.std.specs.Prelude.{◌≡◌, ◌++◌, IfOk, OnOk, ◌<◌};
 ghost use Rattle.std.specs.List.{flat_map};
 ghost use Rattle.nichols_text.specs.Words.{relation_line};
 ghost use Rattle.nichols_text.specs.Pieces.{degree_piece, dimension_line, basis_line};

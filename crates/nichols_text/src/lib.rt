@@ -13,7 +13,7 @@ pub use degree::degree_text;
 pub use end::{EndLine, end_text};
 pub use header::header_text;
 pub use line::{Line, memory_line, not_built_line, read_fault_line, usage_line};
-pub use refusal::not_distributive_text;
+pub use refusal::refusal_text;
 
 #[cfg(test)]
 mod tests;

@@ -1,6 +1,6 @@
 //! Lines that take no memory.
 
-ghost use Rattle.std.specs.Prelude.{◌≡◌, ◌+◌, ◌≤◌, ◌++◌, length, map};
+ghost use Rattle.std.specs.Prelude.{◌≡◌, ◌+◌, ◌≤◌, ◌++◌, length};
 ghost use Rattle.nichols_text.specs.Lines.{usage_text, read_fault_text, not_built_text, memory_text};
 
 use itoa::Buffer;

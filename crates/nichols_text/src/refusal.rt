@@ -1,14 +1,92 @@
 //! The lines of refusals.
 
-ghost use Rattle.std.specs.Prelude.{◌≡◌, IfOk};
-ghost use Rattle.nichols_text.specs.Lines.{not_distributive_text};
+ghost use Rattle.std.specs.Prelude.{◌≡◌, ◌++◌, None, IfOk, OnOk, IfSome, IsErr};
+ghost use Rattle.nichols_braid.specs.FaultAnswers.{table_fault_in};
+ghost use Rattle.nichols_text.specs.Refusals.{letters_text, rack_shape_text, rack_entry_text, not_bijective_text, cocycle_shape_text, cocycle_zero_text, sides_text, not_distributive_text, not_cocycle_text, refusal_text};
 
-use crate::number::push_number;
+use crate::number::{push_integer, push_number};
+use nichols_braid::BraidFault;
 use std::alloc::{AllocError, Global};
 
+/// The line for rows and scalars that aren't a braid. Want of memory has none.
+pub fn refusal_text(alloc: Global, fault: &BraidFault) -> Result<Vec<u8>, AllocError>
+    ensures text { IfOk result (λ r. IfSome (table_fault_in fault.now) (λ told. r.items ≡ refusal_text told)) }
+    ensures memory { table_fault_in fault.now ≡ None → IsErr result }
+{
+    match fault {
+        BraidFault::Letters(n) => letters_text(alloc, *n),
+        BraidFault::RackShape(row) => rack_shape_text(alloc, *row),
+        BraidFault::RackEntry(i, j, v) => rack_entry_text(alloc, *i, *j, *v),
+        BraidFault::NotBijective(i, j, k, v) => not_bijective_text(alloc, *i, *j, *k, *v),
+        BraidFault::NotDistributive(i, j, k, left, right) => {
+            not_distributive_text(alloc, *i, *j, *k, *left, *right)
+        }
+        BraidFault::CocycleShape(row) => cocycle_shape_text(alloc, *row),
+        BraidFault::CocycleZero(i, j) => cocycle_zero_text(alloc, *i, *j),
+        BraidFault::NotCocycle(i, j, k, left, right) => {
+            not_cocycle_text(alloc, *i, *j, *k, *left, *right)
+        }
+        BraidFault::Memory => Err(AllocError),
+    }
+}
+
+/// The line for a number of rows that is no number of letters.
+#[tactic(auto, unfolding(crate::specs::Refusals::letters_text))]
+fn letters_text(alloc: Global, n: usize) -> Result<Vec<u8>, AllocError>
+    ensures { IfOk result (λ r. r.items ≡ letters_text n) }
+{
+    let mut out = Vec::from_slice(alloc, b"refused: ")?;
+    push_number(&mut out, n as u64)?;
+    out.extend_from_slice(b" letters outside 1 to 24\n")?;
+    Ok(out)
+}
+
+/// The line for a row of the rack with a wrong length.
+#[tactic(auto, unfolding(crate::specs::Refusals::rack_shape_text))]
+fn rack_shape_text(alloc: Global, row: usize) -> Result<Vec<u8>, AllocError>
+    ensures { IfOk result (λ r. r.items ≡ rack_shape_text row) }
+{
+    let mut out = Vec::from_slice(alloc, b"refused: rack row ")?;
+    push_number(&mut out, row as u64)?;
+    out.extend_from_slice(b" has a wrong length\n")?;
+    Ok(out)
+}
+
+/// The line for an entry of the rack that is no letter.
+#[tactic(auto, unfolding(crate::specs::Refusals::rack_entry_text))]
+fn rack_entry_text(alloc: Global, i: u32, j: u32, v: i64) -> Result<Vec<u8>, AllocError>
+    ensures { IfOk result (λ r. r.items ≡ rack_entry_text i j v) }
+{
+    let mut out = Vec::from_slice(alloc, b"refused: rack entry ")?;
+    push_number(&mut out, u64::from(i))?;
+    out.extend_from_slice(b" ")?;
+    push_number(&mut out, u64::from(j))?;
+    out.extend_from_slice(b" is ")?;
+    push_integer(&mut out, v)?;
+    out.extend_from_slice(b"\n")?;
+    Ok(out)
+}
+
+/// The line for a row of the rack that has one letter twice.
+#[tactic(auto, unfolding(crate::specs::Refusals::not_bijective_text))]
+fn not_bijective_text(alloc: Global, i: u8, j: u8, k: u8, v: u8) -> Result<Vec<u8>, AllocError>
+    ensures { IfOk result (λ r. r.items ≡ not_bijective_text i j k v) }
+{
+    let mut out = Vec::from_slice(alloc, b"refused: rack row ")?;
+    push_number(&mut out, u64::from(i))?;
+    out.extend_from_slice(b" has ")?;
+    push_number(&mut out, u64::from(v))?;
+    out.extend_from_slice(b" at places ")?;
+    push_number(&mut out, u64::from(j))?;
+    out.extend_from_slice(b" and ")?;
+    push_number(&mut out, u64::from(k))?;
+    out.extend_from_slice(b"\n")?;
+    Ok(out)
+}
+
 /// The line for a table that isn't distributive at i, j, k: there `i ▷ (j ▷ k)` is `left`, and `(i ▷ j) ▷ (i ▷ k)` is `right`.
-#[tactic(auto, unfolding(crate::specs::Lines::not_distributive_text))]
-pub fn not_distributive_text(
+#[tactic(auto, unfolding(crate::specs::Refusals::not_distributive_text))]
+fn not_distributive_text(
     alloc: Global,
     i: u8,
     j: u8,
@@ -19,15 +97,72 @@ pub fn not_distributive_text(
     ensures { IfOk result (λ r. r.items ≡ not_distributive_text i j k left right) }
 {
     let mut out = Vec::from_slice(alloc, b"refused: not distributive at ")?;
+    push_sides(&mut out, i, j, k, u32::from(left), u32::from(right))?;
+    Ok(out)
+}
+
+/// The line for a row of scalars that is missing, surplus or of a wrong length.
+#[tactic(auto, unfolding(crate::specs::Refusals::cocycle_shape_text))]
+fn cocycle_shape_text(alloc: Global, row: usize) -> Result<Vec<u8>, AllocError>
+    ensures { IfOk result (λ r. r.items ≡ cocycle_shape_text row) }
+{
+    let mut out = Vec::from_slice(alloc, b"refused: cocycle row ")?;
+    push_number(&mut out, row as u64)?;
+    out.extend_from_slice(b" is missing, surplus or of a wrong length\n")?;
+    Ok(out)
+}
+
+/// The line for a scalar that is zero.
+#[tactic(auto, unfolding(crate::specs::Refusals::cocycle_zero_text))]
+fn cocycle_zero_text(alloc: Global, i: u8, j: u8) -> Result<Vec<u8>, AllocError>
+    ensures { IfOk result (λ r. r.items ≡ cocycle_zero_text i j) }
+{
+    let mut out = Vec::from_slice(alloc, b"refused: cocycle entry ")?;
     push_number(&mut out, u64::from(i))?;
     out.extend_from_slice(b" ")?;
     push_number(&mut out, u64::from(j))?;
-    out.extend_from_slice(b" ")?;
-    push_number(&mut out, u64::from(k))?;
-    out.extend_from_slice(b": ")?;
-    push_number(&mut out, u64::from(left))?;
-    out.extend_from_slice(b" and ")?;
-    push_number(&mut out, u64::from(right))?;
-    out.extend_from_slice(b"\n")?;
+    out.extend_from_slice(b" is zero\n")?;
     Ok(out)
+}
+
+/// The line for scalars that are no cocycle at i, j, k: there `q(i, j ▷ k) q(j, k)` is `left`, and `q(i ▷ j, i ▷ k) q(i, k)` is `right`.
+#[tactic(auto, unfolding(crate::specs::Refusals::not_cocycle_text))]
+fn not_cocycle_text(
+    alloc: Global,
+    i: u8,
+    j: u8,
+    k: u8,
+    left: u32,
+    right: u32,
+) -> Result<Vec<u8>, AllocError>
+    ensures { IfOk result (λ r. r.items ≡ not_cocycle_text i j k left right) }
+{
+    let mut out = Vec::from_slice(alloc, b"refused: not a cocycle at ")?;
+    push_sides(&mut out, i, j, k, left, right)?;
+    Ok(out)
+}
+
+/// Puts three letters behind a text, and the two sides of a law that differ there.
+#[tactic(auto, unfolding(crate::specs::Refusals::sides_text))]
+fn push_sides(
+    out: &mut Vec<u8>,
+    i: u8,
+    j: u8,
+    k: u8,
+    left: u32,
+    right: u32,
+) -> Result<(), AllocError>
+    ensures { OnOk result (out.new.items ≡ out.old.items ++ sides_text i j k left right) }
+{
+    push_number(out, u64::from(i))?;
+    out.extend_from_slice(b" ")?;
+    push_number(out, u64::from(j))?;
+    out.extend_from_slice(b" ")?;
+    push_number(out, u64::from(k))?;
+    out.extend_from_slice(b": ")?;
+    push_number(out, u64::from(left))?;
+    out.extend_from_slice(b" and ")?;
+    push_number(out, u64::from(right))?;
+    out.extend_from_slice(b"\n")?;
+    Ok(())
 }

@@ -1,5 +1,5 @@
 use super::*;
-use nichols_braid::{Braid, Scalars};
+use nichols_braid::{Braid, BraidFault, Scalars};
 use nichols_field::Field;
 use nichols_words::{Comb, Relation, Term, Word};
 use std::alloc::{AllocError, Global};
@@ -79,12 +79,53 @@ fn headers_and_ends(rt: HostRuntime) -> Result<(), Fail> {
     Ok(())
 }
 
+/// The faults of rows and scalars with their lines.
+const REFUSALS: [(BraidFault, &str); 8] = [
+    (
+        BraidFault::Letters(25),
+        "refused: 25 letters outside 1 to 24\n",
+    ),
+    (
+        BraidFault::RackShape(2),
+        "refused: rack row 2 has a wrong length\n",
+    ),
+    (
+        BraidFault::RackEntry(1, 24, -3),
+        "refused: rack entry 1 24 is -3\n",
+    ),
+    (
+        BraidFault::NotBijective(3, 1, 2, 9),
+        "refused: rack row 3 has 9 at places 1 and 2\n",
+    ),
+    (
+        BraidFault::NotDistributive(2, 1, 24, 10, 9),
+        "refused: not distributive at 2 1 24: 10 and 9\n",
+    ),
+    (
+        BraidFault::CocycleShape(4),
+        "refused: cocycle row 4 is missing, surplus or of a wrong length\n",
+    ),
+    (
+        BraidFault::CocycleZero(1, 2),
+        "refused: cocycle entry 1 2 is zero\n",
+    ),
+    (
+        BraidFault::NotCocycle(1, 3, 1, 2, 65520),
+        "refused: not a cocycle at 1 3 1: 2 and 65520\n",
+    ),
+];
+
 #[test]
-fn single_lines(rt: HostRuntime) -> Result<(), Fail> {
-    let refusal = not_distributive_text(rt.alloc(), 2, 1, 24, 10, 9)?;
-    assert!(rt;
-        refusal.as_slice() == b"refused: not distributive at 2 1 24: 10 and 9\n".as_slice()
-    );
+fn refusals(rt: HostRuntime) -> Result<(), Fail> {
+    for (fault, line) in REFUSALS {
+        let text = refusal_text(rt.alloc(), &fault)?;
+        assert_eq!(rt; text.as_slice(), line.as_bytes());
+    }
+    Ok(())
+}
+
+#[test]
+fn single_lines(rt: HostRuntime) {
     assert!(rt; memory_line(None).bytes() == b"memory last none\n".as_slice());
     assert!(rt; memory_line(Some(60)).bytes() == b"memory last 60\n".as_slice());
     assert!(rt; read_fault_line() == b"read fault\n".as_slice());
@@ -93,5 +134,4 @@ fn single_lines(rt: HostRuntime) -> Result<(), Fail> {
         usage_line()
             == b"usage: nichols algebra or reduce or symmetrize or points K [--degree N] [--rows N] [--workers N] [--window N] [--brief]\n".as_slice()
     );
-    Ok(())
 }

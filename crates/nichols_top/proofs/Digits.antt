@@ -5,16 +5,16 @@ use Rattle.std.specs.Char.{is_ascii_digit}
 use Rattle.std.proofs.Math.Nat.{pow-le-pow_right, pow-suc}
 use Rattle.std.proofs.lemmas.Bool.Decides.{nat_tests}
 use Rattle.std.proofs.lemmas.List.Sums.{fold_more}
-use Rattle.nichols_top.specs.Report.{digits_value}
-use Rattle.nichols_field.proofs.Table.{both_parts}
+use Rattle.nichols_top.specs.Command.{digits_value}
+use Rattle.std.proofs.lemmas.Bool.{and_parts}
 
 one_digit : (c : ℕ) → is_ascii_digit c ≡ true → (48 ≤ c) × (c ≤ 57)
 one_digit c h = (grind (arith, nat_tests), grind (arith, nat_tests))
 
 pub digit_at : (text : List ℕ) (i : ℕ) → i < length text → list_all is_ascii_digit text ≡ true → (48 ≤ get_or text i 0) × (get_or text i 0 ≤ 57)
 digit_at [] i h all = absurd (omega arith)
-digit_at (c ∷ text) zero h all = one_digit c (both_parts (is_ascii_digit c) (list_all is_ascii_digit text) all).0
-digit_at (c ∷ text) (suc i) h all = digit_at text i (omega arith) (both_parts (is_ascii_digit c) (list_all is_ascii_digit text) all).1
+digit_at (c ∷ text) zero h all = one_digit c (and_parts (is_ascii_digit c) (list_all is_ascii_digit text) all).0
+digit_at (c ∷ text) (suc i) h all = digit_at text i (omega arith) (and_parts (is_ascii_digit c) (list_all is_ascii_digit text) all).1
 
 ten_next : (i : ℕ) → 10 ^ (i + 1) ≡ 10 ^ i * 10
 ten_next i = let e : i + 1 ≡ suc i = omega arith in ap (λ k. 10 ^ k) e ∙ pow-suc 10 i

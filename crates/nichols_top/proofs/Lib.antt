@@ -1,6 +1,7 @@
-pub mod Put
-pub mod Progress
-pub mod ReportEnds
-pub mod RunEnds
+pub mod Taking
+pub mod Finishing
+pub mod Statuses
+pub mod Conclusions
+pub mod Reading
+pub mod Commands
 pub mod Digits
-pub mod Reaching

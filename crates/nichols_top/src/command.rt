@@ -1,32 +1,45 @@
 //! The words of the command line.
 
-ghost use Rattle.std.specs.Prelude.{◌≡◌, ◌≤◌, length, true, map, string_bytes};
-ghost use Rattle.nichols_top.specs.Report.{degree_limit, short_number, is_short_number, within_degrees, digits_value};
+ghost use Rattle.std.specs.Prelude.{◌≡◌, ◌≤◌, length, true, map, string_bytes, IfSome};
 ghost use Rattle.std.specs.List.{list_all};
 ghost use Rattle.std.specs.Char.{is_ascii_digit};
+ghost use Rattle.nichols_top.specs.Command.{command_of, IsAccepted, short_number, is_short_number, within_degrees, digits_value};
+
+use nichols_braid::MOST_DEGREES;
 
 /// The degree limit without `--degree`.
-const DEGREE_DEFAULT: u32 = 12;
+pub(crate) const DEGREE_DEFAULT: u32 = 12;
 
-/// The greatest degree limit.
-const DEGREE_MOST: u32 = 60;
+/// The most bytes of a document.
+pub(crate) const DOCUMENT_LIMIT: usize = 1_048_576;
 
-/// The degree limit of a command line: `algebra` alone, or with `--degree` and a limit. No other line is accepted.
-#[tactic(auto, unfolding(crate::specs::Report::degree_limit))]
-pub(crate) fn degree_limit(words: &[String]) -> Option<u32>
-    ensures { result ≡ degree_limit (map string_bytes words.now) }
+/// What the words of a command line ask for.
+#[derive(Clone, Copy, Debug, PartialEq, Eq)]
+pub(crate) enum Command {
+    /// The report of the algebra of a document's braid, up to a degree limit.
+    Algebra { degree_limit: u32 },
+}
+
+/// The command that words are: `algebra` alone, or with `--degree` and a limit. No other words are one.
+#[tactic(auto, unfolding(crate::specs::Command::command_of))]
+pub(crate) fn command_of(words: &[String]) -> Option<Command>
+    ensures command { result ≡ command_of (map string_bytes words.now) }
+    ensures accepted { IfSome result IsAccepted }
 {
     match words {
         [command] => {
             if command.as_str() == "algebra" {
-                Some(DEGREE_DEFAULT)
+                Some(Command::Algebra {
+                    degree_limit: DEGREE_DEFAULT,
+                })
             } else {
                 None
             }
         }
         [command, option, number] => {
             if command.as_str() == "algebra" && option.as_str() == "--degree" {
-                within_degrees(short_number(number.as_bytes()))
+                let degree_limit = within_degrees(short_number(number.as_bytes()))?;
+                Some(Command::Algebra { degree_limit })
             } else {
                 None
             }
@@ -37,10 +50,11 @@ pub(crate) fn degree_limit(words: &[String]) -> Option<u32>
 
 /// A degree limit, where the number is one.
 fn within_degrees(number: Option<u32>) -> Option<u32>
-    ensures { result ≡ within_degrees number }
+    ensures value { result ≡ within_degrees number }
+    ensures within { IfSome result (λ n. n ≤ MOST_DEGREES) }
 {
     match number {
-        Some(n) if n <= DEGREE_MOST => Some(n),
+        Some(n) if n <= MOST_DEGREES => Some(n),
         _ => None,
     }
 }

@@ -1,14 +1,13 @@
 //! The top call: from the words of the command line and the bytes of a document to the report and the status.
 #![tactic(auto)]
 
+mod algebra;
 mod command;
-mod degrees;
-mod output;
-mod report;
-mod statuses;
-mod top;
+mod entry;
+mod status;
+mod writer;
 
-pub use top::run;
+pub use entry::run;
 
 #[cfg(test)]
 mod tests;

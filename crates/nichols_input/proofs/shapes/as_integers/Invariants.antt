@@ -1,8 +1,8 @@
-use Rattle.std.proofs.Common.{◌≡◌, drop}
+use Rattle.std.proofs.Common.{◌≡◌, ◌++◌, drop}
+use Rattle.std.specs.Option.{option_map}
 use Rattle.toml.specs.View.{items_view}
 use Rattle.nichols_input.specs.Shapes.{integers_in}
-use Rattle.nichols_braid.proofs.Prepend.{prepend}
 use Rattle.nichols_input.proofs.shapes.as_integers.Given as goal
 
 abbrev pub invariant-loop-item : goal.invariant-loop-item
-invariant-loop-item l = prepend l.out.items (integers_in (items_view (drop l.item-index l.item-items))) ≡ integers_in (items_view l.item-items)
+invariant-loop-item l = option_map (λ ys. l.out.items ++ ys) (integers_in (items_view (drop l.item-index l.item-items))) ≡ integers_in (items_view l.item-items)

@@ -1,5 +1,5 @@
 use Rattle.std.proofs.Common.{◌≡◌, ◌<◌, ◌≤◌, ◌+◌, ◌-◌, ◌*◌, ◌∙◌, ap, sym, arith, get_or, take}
-use Rattle.nichols_top.specs.Report.{digits_value}
+use Rattle.nichols_top.specs.Command.{digits_value}
 use Rattle.nichols_top.proofs.Digits.{digit_at, ten_more, ten_fits, value_more, value_none}
 use Rattle.nichols_top.proofs.command.digits_value.Goals as goal
 

@@ -1,5 +1,5 @@
 use Rattle.std.proofs.Common.{◌≡◌, ◌<◌, ◌^◌, take}
-use Rattle.nichols_top.specs.Report.{digits_value}
+use Rattle.nichols_top.specs.Command.{digits_value}
 use Rattle.nichols_top.proofs.command.digits_value.Given as goal
 
 abbrev pub invariant-loop-c : goal.invariant-loop-c

@@ -1,0 +1,154 @@
+//! The top call.
+
+ghost use Rattle.std.specs.Prelude.{◌≡◌, ◌≢◌, ◌⊎◌, ◌≤◌, ◌+◌, ℕ, List, map, string_bytes, None, IfSome, IfOk};
+ghost use Rattle.std.specs.Io.KnownBytes.{IsAtEnd};
+ghost use Rattle.nichols_io.specs.Bytes.{ConsumesAtMost, IsLonger};
+ghost use Rattle.nichols_io.specs.Counts.{Rose};
+ghost use Rattle.nichols_input.specs.Refusal.{refusal_of};
+ghost use Rattle.nichols_top.specs.Command.{command_of, IsAccepted, read_limit};
+ghost use Rattle.nichols_top.specs.Due.{due, command_due, refusal_due};
+ghost use Rattle.nichols_top.specs.Ends.{IsLeft, EndsAs, IsComplete, IsChosen};
+ghost use Rattle.nichols_top.specs.Report.{Report, line_report};
+ghost use Rattle.nichols_top.specs.Status.{code};
+ghost use Rattle.nichols_top.specs.Written.{IsStopped, seen, written, Writes};
+
+use crate::algebra::put_algebra;
+use crate::command::{Command, DOCUMENT_LIMIT, command_of};
+use crate::status::Status;
+use crate::writer::{Break, Writer};
+use nichols_input::{InputFault, read_braid};
+use nichols_io::{ReadFault, Sink, Source, read_all};
+use nichols_text::{not_built_line, read_fault_line, refusal_text, usage_line};
+use std::alloc::Global;
+use std::thread::Threads;
+
+/// Reads a document from the source, writes its report to the sink, and answers the status.
+///
+/// The words are those behind the program's name. The statuses: 0, the algebra closed and the whole report was taken;
+/// 1, the words aren't a command; 2, the document is refused; 3, the degree limit stopped the algebra, and the whole
+/// report was taken; 4, the source failed; 5, the sink failed; 6, there was no memory; 7, the document isn't built into a
+/// braid. What was written is one line after 1, 2, 4 and 7; after 6 the pieces that were done, and the memory line;
+/// after 5 a part of what else would have been written.
+pub fn run<R: Threads + Sync, S: Source, K: Sink>(
+    _rt: &R,
+    alloc: Global,
+    words: &[String],
+    source: &mut S,
+    sink: &mut K,
+) -> u8
+    // What was written is the report that is due, or the stated part of it. The document is what the source had left, where
+    // it tells its bytes, and else some document. Of a sink that tells no bytes this speaks of the status and the counts.
+    ensures report { (document : List ℕ) × IsLeft (S.left source.old) document
+        × EndsAs (due (map string_bytes words.now) document) (Rose (S.faults source.old) (S.faults source.new)) (seen K.taken K.faults sink.old) (seen K.taken K.faults sink.new) result }
+
+    // Unless a count rose, the whole report was written and its status is answered, or there was no memory.
+    ensures complete { ¬ Rose (S.faults source.old) (S.faults source.new) → ¬ Rose (K.faults sink.old) (K.faults sink.new) →
+        (document : List ℕ) × IsLeft (S.left source.old) document
+        × IsComplete (due (map string_bytes words.now) document) (seen K.taken K.faults sink.old) (seen K.taken K.faults sink.new) result }
+
+    // What a status tells.
+    ensures usage { command_of (map string_bytes words.now) ≡ None → (result ≡ code Status.Usage) ⊎ (result ≡ code Status.WriteFault) }
+    ensures usage_only { result ≡ code Status.Usage → command_of (map string_bytes words.now) ≡ None }
+    ensures read_fault { result ≡ code Status.ReadFault → Rose (S.faults source.old) (S.faults source.new) }
+    ensures write_fault { result ≡ code Status.WriteFault → Rose (K.faults sink.old) (K.faults sink.new) }
+    ensures statuses { result ≤ 7 }
+
+    // Nothing is written after a write that failed.
+    ensures stopped { result ≡ code Status.WriteFault → IsStopped K.taken K.faults sink.old sink.new }
+
+    // A count stays as it is, unless the status tells a fault.
+    ensures sink_kept { result ≢ code Status.WriteFault → K.faults sink.new ≡ K.faults sink.old }
+    ensures source_kept { result ≢ code Status.ReadFault → result ≢ code Status.WriteFault → S.faults source.new ≡ S.faults source.old }
+
+    // What was read: nothing, or at most the longest document and one byte; with these statuses all of it.
+    ensures unread { read_limit (map string_bytes words.now) ≡ None → source.new ≡ source.old }
+    ensures taken { IfSome (read_limit (map string_bytes words.now)) (λ limit. ConsumesAtMost (S.left source.old) (S.left source.new) (limit + 1)) }
+    ensures read_to_end { (result ≡ code Status.Complete) ⊎ (result ≡ code Status.Stopped) → IfSome (read_limit (map string_bytes words.now)) (λ _. IsAtEnd (S.left source.new)) }
+    ensures refused_at_end { result ≡ code Status.Refused →
+        IfSome (read_limit (map string_bytes words.now)) (λ limit. IsAtEnd (S.left source.new) ⊎ IsLonger (S.left source.old) limit) }
+{
+    let mut out = Writer::new(sink);
+    let report = put_report(alloc, words, source, &mut out);
+    out.conclude(report).code()
+}
+
+/// Writes the report of a command line and of the document that it asks for, or the line of a source that failed.
+fn put_report<S: Source, K: Sink>(
+    alloc: Global,
+    words: &[String],
+    source: &mut S,
+    out: &mut Writer<'_, K>,
+) -> Result<Status, Break>
+    ensures same_sink { out.new.sink.ghost_name ≡ out.old.sink.ghost_name }
+    ensures report { (document : List ℕ) × IsLeft (S.left source.old) document
+        × ((report : Report) × IsChosen (due (map string_bytes words.now) document) (Rose (S.faults source.old) (S.faults source.new)) report
+        × Writes report (written K.taken K.faults out.old) (written K.taken K.faults out.new) result) }
+    ensures usage { command_of (map string_bytes words.now) ≡ None → (result ≡ Ok Status.Usage) ⊎ (result ≡ Err Break.Fault) }
+    ensures source_kept { ((result ≡ Ok Status.ReadFault) ⊎ (result ≡ Err Break.Fault)) ⊎ (S.faults source.new ≡ S.faults source.old) }
+    ensures unread { read_limit (map string_bytes words.now) ≡ None → source.new ≡ source.old }
+    ensures taken { IfSome (read_limit (map string_bytes words.now)) (λ limit. ConsumesAtMost (S.left source.old) (S.left source.new) (limit + 1)) }
+    ensures read_to_end { IfOk result (λ status. (status ≡ Status.Complete) ⊎ ((status ≡ Status.Refused) ⊎ (status ≡ Status.Stopped)) → IsAtEnd (S.left source.new)) }
+    ensures stopped { result ≡ Err Break.Fault → IsStopped K.taken K.faults out.old.sink.now out.new.sink.now }
+{
+    let Some(command) = command_of(words) else {
+        return put_line(usage_line(), Status::Usage, out);
+    };
+    match read_all(alloc, source, DOCUMENT_LIMIT) {
+        Ok(document) => put_command(alloc, command, document.as_slice(), out),
+        Err(ReadFault::TooLong) => put_line(not_built_line(), Status::NotBuilt, out),
+        Err(ReadFault::Failed) => put_line(read_fault_line(), Status::ReadFault, out),
+        Err(ReadFault::Memory) => Err(Break::Memory),
+    }
+}
+
+/// Writes the report of a command for its document.
+fn put_command<K: Sink>(
+    alloc: Global,
+    command: Command,
+    document: &[u8],
+    out: &mut Writer<'_, K>,
+) -> Result<Status, Break>
+    requires { IsAccepted command }
+    ensures same_sink { out.new.sink.ghost_name ≡ out.old.sink.ghost_name }
+    ensures report { Writes (command_due command document.now) (written K.taken K.faults out.old) (written K.taken K.faults out.new) result }
+    ensures stopped { result ≡ Err Break.Fault → IsStopped K.taken K.faults out.old.sink.now out.new.sink.now }
+{
+    match command {
+        Command::Algebra { degree_limit } => match read_braid(alloc, document) {
+            Ok(braid) => put_algebra(alloc, braid, degree_limit, out),
+            Err(fault) => put_refusal(alloc, fault, out),
+        },
+    }
+}
+
+/// Writes the line of a document that has no braid.
+fn put_refusal<K: Sink>(
+    alloc: Global,
+    fault: InputFault,
+    out: &mut Writer<'_, K>,
+) -> Result<Status, Break>
+    ensures same_sink { out.new.sink.ghost_name ≡ out.old.sink.ghost_name }
+    ensures refusal { IfSome (refusal_of fault) (λ refusal. Writes (refusal_due refusal) (written K.taken K.faults out.old) (written K.taken K.faults out.new) result) }
+    ensures memory { refusal_of fault ≡ None → (result ≡ Err Break.Memory) × (written K.taken K.faults out.new ≡ written K.taken K.faults out.old) }
+    ensures stopped { result ≡ Err Break.Fault → IsStopped K.taken K.faults out.old.sink.now out.new.sink.now }
+{
+    match fault {
+        InputFault::Braid(tables) => {
+            let line = refusal_text(alloc, &tables)?;
+            put_line(line.as_slice(), Status::Refused, out)
+        }
+        InputFault::Unbuilt => put_line(not_built_line(), Status::NotBuilt, out),
+        InputFault::Memory => Err(Break::Memory),
+    }
+}
+
+/// Writes a report of one line, and answers its status. The only break is that the sink failed.
+fn put_line<K: Sink>(line: &[u8], status: Status, out: &mut Writer<'_, K>) -> Result<Status, Break>
+    ensures same_sink { out.new.sink.ghost_name ≡ out.old.sink.ghost_name }
+    ensures report { Writes (line_report line.now status) (written K.taken K.faults out.old) (written K.taken K.faults out.new) result }
+    ensures answer { (result ≡ Ok status) ⊎ (result ≡ Err Break.Fault) }
+    ensures stopped { result ≡ Err Break.Fault → IsStopped K.taken K.faults out.old.sink.now out.new.sink.now }
+{
+    out.put(line, None)?;
+    Ok(status)
+}
