@@ -5,12 +5,13 @@ use Rattle.std.specs.List.Sorted.{IsNonDecreasingBy}
 use Rattle.std.proofs.lemmas.List.Sorted.{IsNonDecreasingBy-from_default}
 use mathlib.Core.Logic.{dite}
 use native.Mathlib.Decide.{ℕ_discrete, dec_le}
-use Rattle.nichols_core.specs.declared.layout.Edge.{Edge}
-use Rattle.nichols_core.specs.Layout.{LayoutValue, IsLayout, IsBefore, edge_at, edge_into, entry_place}
+use Rattle.nichols_core.specs.declared.edge.Edge.{Edge}
+use Rattle.nichols_core.specs.Layout.{LayoutValue, IsLayout, IsBefore, no_edge, edge_at, edge_into, entry_place}
 use Rattle.nichols_core.specs.Machine.{none_picked, all_picked}
 use Rattle.nichols_core.specs.Conditions.{IsInto}
 use Rattle.nichols_core.proofs.Stages.{every_false, true_every}
-use Rattle.nichols_core.proofs.Conditions.{into_is, true_or, true_nand}
+use Rattle.nichols_core.proofs.EdgesFound.{into_is}
+use Rattle.nichols_core.proofs.Conditions.{true_or, true_nand}
 
 place_before : (e f : Edge) → e.letter ≤ 24 → IsBefore e f → entry_place e < entry_place f
 place_before e f small (inl h) = omega arith
@@ -22,14 +23,14 @@ upper_before e f (inr h) = omega (arith, h.0)
 
 module _ (l : LayoutValue) (rules : IsLayout l) where
   small_letter : (k : ℕ) → k < length l.edges → (edge_at l.edges k).letter ≤ 24
-  small_letter k inside = (rules.good.placed k (record { lower = 0; letter = 0; upper = 0 }) inside).to_last
+  small_letter k inside = (rules.good.placed k no_edge inside).to_last
 
   places_rise : (j k : ℕ) → j < k → k < length l.edges → entry_place (edge_at l.edges j) < entry_place (edge_at l.edges k)
   places_rise j k less inside = place_before (edge_at l.edges j) (edge_at l.edges k) (small_letter j (omega arith)) (rules.rising j k less inside)
 
   pub entries_sorted : IsNonDecreasingBy entry_place l.edges
   entries_sorted =
-      IsNonDecreasingBy-from_default entry_place l.edges (record { lower = 0; letter = 0; upper = 0 })
+      IsNonDecreasingBy-from_default entry_place l.edges no_edge
       (λ j k at_most inside. dite (ℕ_discrete j k)
       (λ same. let equal : entry_place (edge_at l.edges j) ≡ entry_place (edge_at l.edges k) = ap (λ i. entry_place (edge_at l.edges i)) same in omega arith)
       (λ other. let less = places_rise j k (omega arith) inside in omega arith))
@@ -57,7 +58,7 @@ module _ (l : LayoutValue) (rules : IsLayout l) where
 
   pub uppers_sorted : IsNonDecreasingBy (λ (e : Edge). e.upper) l.edges
   uppers_sorted =
-      IsNonDecreasingBy-from_default (λ (e : Edge). e.upper) l.edges (record { lower = 0; letter = 0; upper = 0 })
+      IsNonDecreasingBy-from_default (λ (e : Edge). e.upper) l.edges no_edge
       (λ j k at_most inside. dite (ℕ_discrete j k)
       (λ same. let equal : (edge_at l.edges j).upper ≡ (edge_at l.edges k).upper = ap (λ i. (edge_at l.edges i).upper) same in omega arith)
       (λ other. upper_before (edge_at l.edges j) (edge_at l.edges k) (rules.rising j k (omega arith) inside)))

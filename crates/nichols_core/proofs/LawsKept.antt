@@ -4,12 +4,12 @@ use Rattle.std.proofs.lemmas.Bool.{false_from_ne_true}
 use Rattle.std.proofs.Math.Bool.{and-false}
 use mathlib.Core.Logic.{dite}
 use native.Mathlib.Decide.{ℕ_discrete}
-use Rattle.nichols_core.specs.declared.layout.Edge.{Edge}
-use Rattle.nichols_core.specs.declared.event.Stage.{Stage}
-use Rattle.nichols_core.specs.declared.event.Stage.TheVariants.{Ready, Held, Parked, Resumed, Published}
+use Rattle.nichols_core.specs.declared.edge.Edge.{Edge}
+use Rattle.nichols_core.specs.declared.stage.Stage.{Stage}
+use Rattle.nichols_core.specs.declared.stage.Stage.TheVariants.{Ready, Held, Parked, Resumed, Published}
 use Rattle.nichols_core.specs.Layout.{edge_at}
-use Rattle.nichols_core.specs.Machine.{Machine, put, is_published, taken, take, ask, pick, lay, resumed, publish, release}
-use Rattle.nichols_core.specs.Laws.{IsBegun, IsWaiting, HasEdge, AllPicked, NonePicked, AllLaid, Laws}
+use Rattle.nichols_core.specs.Machine.{Machine, put, is_published, stage_after_take, take, ask, pick, lay, stage_after_publication, publish, release}
+use Rattle.nichols_core.specs.SixLaws.{IsBegun, IsWaiting, HasEdge, AllPicked, NonePicked, AllLaid, SixLaws}
 use Rattle.nichols_core.proofs.Stages.{put_is, put_here, put_else, taken_ready, taken_parked, taken_published, begun_taken, resumed_ready, resumed_published, resumed_parked, begun_resumed, begun_or_waiting, not_published}
 
 -- the five laws of the induction
@@ -20,7 +20,7 @@ pub record Core (es : List Edge) (m : Machine) : Type 0 where
   pub laid : (k : ℕ) → k < length es → m.laid k ≡ true → IsBegun (m.stage (edge_at es k).lower) × AllPicked es m (edge_at es k).lower
   pub published : (b : ℕ) → m.stage b ≡ Published → AllPicked es m b × AllLaid es m b
 
-pub core : (es : List Edge) (m : Machine) → Laws es m → Core es m
+pub core : (es : List Edge) (m : Machine) → SixLaws es m → Core es m
 core es m laws = record {
   ready = laws.ready;
   parked = λ b l is. let r = laws.parked b l is in (r.0, r.1);
@@ -29,7 +29,7 @@ core es m laws = record {
   published = laws.published;
 }
 
-pub whole : (es : List Edge) (m : Machine) → Core es m → Laws es m
+pub whole : (es : List Edge) (m : Machine) → Core es m → SixLaws es m
 whole es m laws = record {
   ready = laws.ready;
   parked = λ b l is. let r = laws.parked b l is in (r.0, r.1, none b (subst IsWaiting (sym is) tt));
@@ -43,24 +43,24 @@ whole es m laws = record {
     none b h k inside up = false_from_ne_true (m.picked k) (λ p. begun_or_waiting (m.stage b) (subst (λ c. IsBegun (m.stage c)) up (laws.picked k inside p).2) h)
 
 -- the stage of c after a take, in both cases, and back
-stage_take : (m : Machine) (w b c : ℕ) (P Q : Stage → Type 0) → ((s : Stage) → P s → Q s) → ((s : Stage) → P s → Q (taken w s)) → P (m.stage c) → Q ((take w b m).stage c)
-stage_take m w b c P Q else here h = put_is m.stage b (taken w (m.stage b)) c Q (λ e. here (m.stage b) (subst (λ d. P (m.stage d)) e h)) (λ _. else (m.stage c) h)
+stage_take : (m : Machine) (w b c : ℕ) (P Q : Stage → Type 0) → ((s : Stage) → P s → Q s) → ((s : Stage) → P s → Q (stage_after_take w s)) → P (m.stage c) → Q ((take w b m).stage c)
+stage_take m w b c P Q else here h = put_is m.stage b (stage_after_take w (m.stage b)) c Q (λ e. here (m.stage b) (subst (λ d. P (m.stage d)) e h)) (λ _. else (m.stage c) h)
 
-stage_was : (m : Machine) (w b c : ℕ) (s : Stage) → ((t : Stage) → taken w t ≡ s → t ≡ s) → (take w b m).stage c ≡ s → m.stage c ≡ s
-stage_was m w b c s back = put_is m.stage b (taken w (m.stage b)) c (λ t. t ≡ s → m.stage c ≡ s) (λ e h. ap m.stage e ∙ back (m.stage b) h) (λ _ h. h)
+stage_was : (m : Machine) (w b c : ℕ) (s : Stage) → ((t : Stage) → stage_after_take w t ≡ s → t ≡ s) → (take w b m).stage c ≡ s → m.stage c ≡ s
+stage_was m w b c s back = put_is m.stage b (stage_after_take w (m.stage b)) c (λ t. t ≡ s → m.stage c ≡ s) (λ e h. ap m.stage e ∙ back (m.stage b) h) (λ _ h. h)
 
 pub take_keeps : (es : List Edge) (m : Machine) (w b : ℕ) → Core es m → Core es (take w b m)
 take_keeps es m w b laws = record {
   ready = λ c is.
-      let other : c ≢ b = λ e. taken_ready (m.stage b) w (sym (put_here m.stage b (taken w (m.stage b)) c e) ∙ is) in
-      let r = laws.ready c (sym (put_else m.stage b (taken w (m.stage b)) c other) ∙ is) in
+      let other : c ≢ b = λ e. taken_ready (m.stage b) w (sym (put_here m.stage b (stage_after_take w (m.stage b)) c e) ∙ is) in
+      let r = laws.ready c (sym (put_else m.stage b (stage_after_take w (m.stage b)) c other) ∙ is) in
       (r.0, ap (λ t. cond (eqb r.0 w && t) false (m.owes r.0 c)) (ne_eqb c b other) ∙ (ap (λ t. cond t false (m.owes r.0 c)) (and-false (eqb r.0 w)) ∙ r.1));
   parked = λ c l is.
       let r = laws.parked c l (stage_was m w b c (Parked l) (λ t. taken_parked t w l) is) in
       (r.0, λ p. r.1 (stage_was m w b l Published (λ t. taken_published t w) p));
   picked = λ k inside p.
       let r = laws.picked k inside p in
-      (r.0, stage_take m w b (edge_at es k).lower (λ s. s ≡ Published) (λ s. s ≡ Published) (λ s h. h) (λ s h. ap (taken w) h) r.1, stage_take m w b (edge_at es k).upper IsBegun IsBegun (λ s h. h) (λ s. begun_taken s w) r.2);
+      (r.0, stage_take m w b (edge_at es k).lower (λ s. s ≡ Published) (λ s. s ≡ Published) (λ s h. h) (λ s h. ap (stage_after_take w) h) r.1, stage_take m w b (edge_at es k).upper IsBegun IsBegun (λ s h. h) (λ s. begun_taken s w) r.2);
   laid = λ k inside p.
       let r = laws.laid k inside p in
       (stage_take m w b (edge_at es k).lower IsBegun IsBegun (λ s h. h) (λ s. begun_taken s w) r.0, r.1);
@@ -123,7 +123,7 @@ lay_keeps es m w k laws within held full =
 
 pub publish_keeps : (es : List Edge) (m : Machine) (w b : ℕ) → Core es m → m.stage b ≡ Held w → AllPicked es m b → AllLaid es m b → Core es (publish w b m)
 publish_keeps es m w b laws held full spread =
-    let f : ℕ → Stage = λ c. resumed w b (m.stage c) in
+    let f : ℕ → Stage = λ c. stage_after_publication w b (m.stage c) in
     let at : (c : ℕ) (P : Stage → Type 0) → (c ≡ b → P Published) → (c ≢ b → P (f c)) → P ((publish w b m).stage c) = put_is f b Published in record {
       ready = λ c. at c (λ t. t ≡ Ready → (u : ℕ) × (m.owes u c ≡ true)) (λ _ e. absurd (cc)) (λ _ e. laws.ready c (resumed_ready w b (m.stage c) e));
       parked = λ c l.
@@ -133,7 +133,7 @@ publish_keeps es m w b laws held full spread =
           (r.0, at l (λ t. t ≢ Published) (λ is. absurd (was.1 is)) (λ _ p. r.1 (resumed_published w b (m.stage l) p))));
       picked = λ k inside p.
           let r = laws.picked k inside p in
-          (r.0, at (edge_at es k).lower (λ t. t ≡ Published) (λ _. refl) (λ _. ap (resumed w b) r.1), at (edge_at es k).upper IsBegun (λ _. tt) (λ _. begun_resumed w b (m.stage (edge_at es k).upper) r.2));
+          (r.0, at (edge_at es k).lower (λ t. t ≡ Published) (λ _. refl) (λ _. ap (stage_after_publication w b) r.1), at (edge_at es k).upper IsBegun (λ _. tt) (λ _. begun_resumed w b (m.stage (edge_at es k).upper) r.2));
       laid = λ k inside p. let r = laws.laid k inside p in (at (edge_at es k).lower IsBegun (λ _. tt) (λ _. begun_resumed w b (m.stage (edge_at es k).lower) r.0), r.1);
       published = λ c. at c (λ t. t ≡ Published → AllPicked es m c × AllLaid es m c)
           (λ is _. (subst (AllPicked es m) (sym is) full, subst (AllLaid es m) (sym is) spread))

@@ -1,20 +1,21 @@
 -- What holds after every run.
-use Rattle.std.proofs.Common.{◌≡◌, ◌⊎◌, ⊎_elim, inl, inr, ℕ, zero, suc, ◌+◌, ◌<◌, Bool, true, false, true≢false, cond, ltb, not, ◌&&◌, zero-add, List, [], ◌∷◌, ◌++◌, length, refl, sym, ap, ◌∙◌, subst, eq-eqb, ne_eqb, lt-ltb, arith}
-use mathlib.Core.Logic.{dite}
-use native.Mathlib.Decide.{ℕ_discrete}
-use Rattle.std.specs.Prelude.{Option, Some, None, slice_index}
-use Rattle.nichols_core.specs.declared.layout.Edge.{Edge}
+use Rattle.std.proofs.Common.{◌≡◌, ◌⊎◌, ⊎_elim, inl, inr, ℕ, zero, suc, ◌+◌, ◌<◌, Bool, true, false, true≢false, cond, ltb, zero-add, List, [], ◌∷◌, ◌++◌, length, refl, sym, ap, ◌∙◌, subst, lt-ltb, arith}
+use Rattle.std.proofs.lemmas.Bool.{cond-true}
+use Rattle.std.specs.Prelude.{slice_index}
+use Rattle.nichols_core.specs.declared.edge.Edge.{Edge}
 use Rattle.nichols_core.specs.declared.event.Event.{Event}
 use Rattle.nichols_core.specs.declared.event.Event.TheVariants.{Pick, Publish}
-use Rattle.nichols_core.specs.declared.event.Stage.{Stage}
-use Rattle.nichols_core.specs.declared.event.Stage.TheVariants.{Ready, Held, Parked, Resumed, Published}
-use Rattle.nichols_core.specs.Layout.{LayoutValue, IsLayout, edge_at, edge_into}
-use Rattle.nichols_core.specs.Machine.{Machine, some_edge, by_edge, is_held_by, is_published, is_parked, is_resumed, all_picked, all_laid, can, effect, after, pick, publish, resumed}
-use Rattle.nichols_core.specs.Laws.{Laws}
-use Rattle.nichols_core.specs.Runs.{start, run, reached, one_if, times_from, publishes, parks, resumes, releases, picks, lays, RunsMeetLaws, OneHolder, PublishedOnce, PublishedStays, ParkedIsResumed, ResumedIsReleased, PublicationResumes, HeldFromPick, PickedOnce, LaidOnce, IsIdle, IdleIsPublished}
-use Rattle.nichols_core.proofs.Stages.{and_left, and_right, held_by, put_here}
+use Rattle.nichols_core.specs.declared.stage.Stage.{Stage}
+use Rattle.nichols_core.specs.declared.stage.Stage.TheVariants.{Ready, Held, Parked, Resumed, Published}
+use Rattle.nichols_core.specs.Layout.{LayoutValue, IsLayout, no_edge, edge_at}
+use Rattle.nichols_core.specs.Machine.{Machine, by_edge, is_published, is_parked, is_resumed, can, effect, after, pick}
+use Rattle.nichols_core.specs.SixLaws.{SixLaws}
+use Rattle.nichols_core.specs.Runs.{start, run, state_reached, one_if, times_from, publishes, parks, resumes, releases, picks, lays, EveryRunMeetsTheSixLaws, ABlockHasOneHolder, ABlockIsPublishedOnce, APublishedBlockStaysSo, EachParkingIsResumedOnce, EachResumptionIsReleasedOnce, APublicationResumesWhatWaits, APickerHoldsUntilPublication, AnEdgeIsPickedOnce, AnEdgeIsLaidOnce, IsIdle, WhereNothingIsOwedAllIsPublished}
+use Rattle.nichols_core.proofs.Stages.{put_here, resumed_by_publication}
+use Rattle.nichols_core.proofs.EdgesFound.{into_is}
+use Rattle.nichols_core.proofs.Passes.{passes}
 use Rattle.nichols_core.proofs.LawsKept.{whole}
-use Rattle.nichols_core.proofs.Events.{into_is, events_keep_laws}
+use Rattle.nichols_core.proofs.Events.{every_event_keeps_the_six_laws}
 use Rattle.nichols_core.proofs.Steps.{step, parks_untouched, published_counted, parked_counted, resumed_counted, published_stays, held_stays, picked_counted, laid_counted}
 
 -- the start meets the laws
@@ -32,12 +33,12 @@ start_parked false l e = cc
 
 -- an end of an edge is a block
 lower_inside : (l : LayoutValue) → IsLayout l → (k : ℕ) → k < length l.edges → (edge_at l.edges k).lower < length l.degrees
-lower_inside l rules k inside = (rules.good.placed k (record { lower = 0; letter = 0; upper = 0 }) inside).lower
+lower_inside l rules k inside = (rules.good.placed k no_edge inside).lower
 
 upper_inside : (l : LayoutValue) → IsLayout l → (k : ℕ) → k < length l.edges → (edge_at l.edges k).upper < length l.degrees
-upper_inside l rules k inside = (rules.good.placed k (record { lower = 0; letter = 0; upper = 0 }) inside).upper
+upper_inside l rules k inside = (rules.good.placed k no_edge inside).upper
 
-pub start_meets_laws : (l : LayoutValue) → IsLayout l → Laws l.edges (start (length l.degrees))
+pub start_meets_laws : (l : LayoutValue) → IsLayout l → SixLaws l.edges (start (length l.degrees))
 start_meets_laws l rules =
     let n = length l.degrees in
     let outside : (b : ℕ) → cond (ltb b n) Ready Published ≡ Published → b < n → ⊥ = λ b is h. true≢false (sym (lt-ltb b n h) ∙ start_published (ltb b n) is) in
@@ -52,16 +53,16 @@ start_meets_laws l rules =
       );
     }
 
-run_keeps_laws : (es : List Edge) (events : List Event) (m : Machine) → Laws es m → Laws es (run es events m)
+run_keeps_laws : (es : List Edge) (events : List Event) (m : Machine) → SixLaws es m → SixLaws es (run es events m)
 unfolding run
 run_keeps_laws es [] m laws = laws
-run_keeps_laws es (e ∷ later) m laws = run_keeps_laws es later (after es e m) (events_keep_laws es e m laws)
+run_keeps_laws es (e ∷ later) m laws = run_keeps_laws es later (after es e m) (every_event_keeps_the_six_laws es e m laws)
 
-pub runs_meet_laws : RunsMeetLaws
-runs_meet_laws l rules events = run_keeps_laws l.edges events (start (length l.degrees)) (start_meets_laws l rules)
+pub every_run_meets_the_six_laws : EveryRunMeetsTheSixLaws
+every_run_meets_the_six_laws l rules events = run_keeps_laws l.edges events (start (length l.degrees)) (start_meets_laws l rules)
 
-pub one_holder : OneHolder
-one_holder l rules events b v w is_v is_w = let e : Held v ≡ Held w = sym is_v ∙ is_w in cc
+pub a_block_has_one_holder : ABlockHasOneHolder
+a_block_has_one_holder l rules events b v w is_v is_w = let e : Held v ≡ Held w = sym is_v ∙ is_w in cc
 
 run-append : (es : List Edge) (xs ys : List Event) (m : Machine) → run es (xs ++ ys) m ≡ run es ys (run es xs m)
 unfolding run
@@ -76,10 +77,10 @@ run_published es (e ∷ later) m b is =
     run_published es later (after es e m) b
     (published_stays (m.stage b) ((after es e m).stage b) (publishes b es e m) (parks b es e m) (resumes b es e m) (releases b es e m) (step es m b e) is)
 
-pub published_stays_so : PublishedStays
-published_stays_so l rules events later b is =
+pub a_published_block_stays_so : APublishedBlockStaysSo
+a_published_block_stays_so l rules events later b is =
     ap (λ (m : Machine). m.stage b) (run-append l.edges events later (start (length l.degrees)))
-    ∙ run_published l.edges later (reached l events) b is
+    ∙ run_published l.edges later (state_reached l events) b is
 
 -- two counts over a run, where each event keeps their balance
 balanced : (es : List Edge) (p q : Event → Machine → Bool) (f : Machine → ℕ)
@@ -103,8 +104,8 @@ counted es p f keeps (e ∷ later) m =
     let rest = counted es p f keeps later (after es e m) in
     omega arith
 
-pub published_once : PublishedOnce
-published_once l rules events b inside =
+pub a_block_is_published_once : ABlockIsPublishedOnce
+a_block_is_published_once l rules events b inside =
     let es = l.edges in
     let m : Machine = start (length l.degrees) in
     let f : Machine → ℕ = λ n. one_if (is_published (n.stage b)) in
@@ -116,8 +117,8 @@ not_at_start : (g : Stage → Bool) (t : Bool) → g Ready ≡ false → g Publi
 not_at_start g true r p = ap one_if r
 not_at_start g false r p = ap one_if p
 
-pub parked_is_resumed : ParkedIsResumed
-parked_is_resumed l rules events b =
+pub each_parking_is_resumed_once : EachParkingIsResumedOnce
+each_parking_is_resumed_once l rules events b =
     let es = l.edges in
     let m : Machine = start (length l.degrees) in
     let f : Machine → ℕ = λ n. one_if (is_parked (n.stage b)) in
@@ -125,8 +126,8 @@ parked_is_resumed l rules events b =
     let none : f m ≡ 0 = not_at_start is_parked (ltb b (length l.degrees)) refl refl in
     omega arith
 
-pub resumed_is_released : ResumedIsReleased
-resumed_is_released l rules events b =
+pub each_resumption_is_released_once : EachResumptionIsReleasedOnce
+each_resumption_is_released_once l rules events b =
     let es = l.edges in
     let m : Machine = start (length l.degrees) in
     let f : Machine → ℕ = λ n. one_if (is_resumed (n.stage b)) in
@@ -134,8 +135,8 @@ resumed_is_released l rules events b =
     let none : f m ≡ 0 = not_at_start is_resumed (ltb b (length l.degrees)) refl refl in
     omega arith
 
-pub picked_once : PickedOnce
-picked_once l rules events k =
+pub an_edge_is_picked_once : AnEdgeIsPickedOnce
+an_edge_is_picked_once l rules events k =
     let es = l.edges in
     let m : Machine = start (length l.degrees) in
     let f : Machine → ℕ = λ n. one_if (n.picked k) in
@@ -143,8 +144,8 @@ picked_once l rules events k =
     let none : f m ≡ 0 = refl in
     omega arith
 
-pub laid_once : LaidOnce
-laid_once l rules events k =
+pub an_edge_is_laid_once : AnEdgeIsLaidOnce
+an_edge_is_laid_once l rules events k =
     let es = l.edges in
     let m : Machine = start (length l.degrees) in
     let f : Machine → ℕ = λ n. one_if (n.laid k) in
@@ -152,27 +153,20 @@ laid_once l rules events k =
     let none : f m ≡ 0 = refl in
     omega arith
 
--- the publication of a block, and a block that is parked on it
-resumed_then : (es : List Edge) (m : Machine) (w b low : ℕ) → m.stage b ≡ Parked low → m.stage low ≡ Held w → (publish w low m).stage b ≡ Resumed w
-resumed_then es m w b low parked held =
-    dite (ℕ_discrete b low)
-    (λ e. absurd (let q : Parked low ≡ Held w = sym parked ∙ (ap m.stage e ∙ held) in cc))
-    (λ n. ap (λ t. cond t Published (resumed w low (m.stage b))) (ne_eqb b low n) ∙ (ap (resumed w low) parked ∙ ap (λ t. cond t (Resumed w) (Parked low)) (eq-eqb low low refl)))
-
 run_one : (es : List Edge) (e : Event) (m : Machine) → run es (e ∷ []) m ≡ after es e m
 unfolding run
 run_one es e m = refl
 
 applied : (es : List Edge) (e : Event) (m : Machine) → can es e m ≡ true → after es e m ≡ effect es e m
-applied es e m h = ap (λ t. cond t (effect es e m) m) h
+applied es e m h = cond-true (can es e m) (effect es e m) m h
 
-pub publication_resumes : PublicationResumes
-publication_resumes l rules events w b low parked h =
+pub a_publication_resumes_what_waits : APublicationResumesWhatWaits
+a_publication_resumes_what_waits l rules events w b low parked h =
     let es = l.edges in
-    let m : Machine = reached l events in
-    let held = held_by w (m.stage low) (and_left (is_held_by w (m.stage low)) (all_picked es m.picked low) (and_left (is_held_by w (m.stage low) && all_picked es m.picked low) (all_laid es m.laid low) h)) in
+    let m : Machine = state_reached l events in
+    let held = (passes es m (Publish w low) h).0 in
     ap (λ (n : Machine). n.stage b) (run-append es events (Publish w low ∷ []) (start (length l.degrees)) ∙ (run_one es (Publish w low) m ∙ applied es (Publish w low) m h))
-    ∙ resumed_then es m w b low parked held
+    ∙ resumed_by_publication m.stage w low b held parked
 
 -- a block into which an edge is picked and that is held by w goes on so until it is published
 still_held : (es : List Edge) (events : List Event) (m : Machine) (w b k : ℕ) → k < length es → (edge_at es k).upper ≡ b → m.picked k ≡ true → m.stage b ≡ Held w
@@ -194,26 +188,21 @@ run_next : (es : List Edge) (e : Event) (later : List Event) (m : Machine) → r
 unfolding run
 run_next es e later m = refl
 
-held_once_picked : (es : List Edge) (later : List Event) (m : Machine) (w b : ℕ) (at : Option ℕ) (test : ℕ → Bool) → ((k : ℕ) → at ≡ Some k → (k < length es) × ((edge_at es k).upper ≡ b)) → some_edge at test ≡ true → m.stage b ≡ Held w
-    → ((run es later (by_edge at pick m)).stage b ≡ Held w) ⊎ ((run es later (by_edge at pick m)).stage b ≡ Published)
-held_once_picked es later m w b None test found h held = absurd (true≢false (sym h))
-held_once_picked es later m w b (Some k) test found h held =
-    let at = found k refl in
-    still_held es later (pick k m) w b k at.0 at.1 (put_here m.picked k true k refl) held
-
-pub held_from_pick : HeldFromPick
-held_from_pick l rules events later w b a h =
+pub a_picker_holds_until_publication : APickerHoldsUntilPublication
+a_picker_holds_until_publication l rules events later w b a h =
     let es = l.edges in
-    let m : Machine = reached l events in
-    let test : ℕ → Bool = λ k. is_published (m.stage (edge_at es k).lower) && m.laid k && not (m.picked k) in
-    let held = held_by w (m.stage b) (and_left (is_held_by w (m.stage b)) (some_edge (edge_into es b a) test) h) in
-    let same : reached l (events ++ Pick w b a ∷ later) ≡ run es later (by_edge (edge_into es b a) pick m) =
-    run-append es events (Pick w b a ∷ later) (start (length l.degrees)) ∙ (run_next es (Pick w b a) later m ∙ ap (run es later) (applied es (Pick w b a) m h)) in
+    let m : Machine = state_reached l events in
+    let passed = passes es m (Pick w b a) h in
+    let k = passed.1.0 in
+    let at = into_is es b a k passed.1.1.0 in
+    let same : state_reached l (events ++ Pick w b a ∷ later) ≡ run es later (pick k m) =
+    run-append es events (Pick w b a ∷ later) (start (length l.degrees))
+    ∙ (run_next es (Pick w b a) later m ∙ ap (run es later) (applied es (Pick w b a) m h ∙ ap (λ o. by_edge o pick m) passed.1.1.0)) in
     subst (λ (n : Machine). (n.stage b ≡ Held w) ⊎ (n.stage b ≡ Published)) (sym same)
-    (held_once_picked es later m w b (edge_into es b a) test (λ k. into_is es b a k) (and_right (is_held_by w (m.stage b)) (some_edge (edge_into es b a) test) h) held)
+    (still_held es later (pick k m) w b k at.inside at.upper (put_here m.picked k true k refl) passed.0)
 
 -- the last law, by the degree
-module _ (l : LayoutValue) (rules : IsLayout l) (m : Machine) (laws : Laws l.edges m) (idle : (b : ℕ) → b < length l.degrees → IsIdle m b) where
+module _ (l : LayoutValue) (rules : IsLayout l) (m : Machine) (laws : SixLaws l.edges m) (idle : (b : ℕ) → b < length l.degrees → IsIdle m b) where
   one_published : (n b : ℕ) → b < length l.degrees → slice_index l.degrees b < suc n
       → ((c : ℕ) → c < length l.degrees → slice_index l.degrees c < n → m.stage c ≡ Published)
       → (s : Stage) → m.stage b ≡ s → s ≡ Published
@@ -222,7 +211,7 @@ module _ (l : LayoutValue) (rules : IsLayout l) (m : Machine) (laws : Laws l.edg
   one_published n b inside h below (Parked low) e =
       let r = laws.parked b low e in
       let k = r.0.number in
-      let placed = rules.good.placed k (record { lower = 0; letter = 0; upper = 0 }) r.0.inside in
+      let placed = rules.good.placed k no_edge r.0.inside in
       let up : slice_index l.degrees (edge_at l.edges k).upper ≡ slice_index l.degrees b = ap (slice_index l.degrees) r.0.upper in
       let down : slice_index l.degrees (edge_at l.edges k).lower ≡ slice_index l.degrees low = ap (slice_index l.degrees) r.0.lower in
       let rises = placed.rises in
@@ -234,5 +223,5 @@ module _ (l : LayoutValue) (rules : IsLayout l) (m : Machine) (laws : Laws l.edg
   published_below zero b inside h = absurd (omega arith)
   published_below (suc n) b inside h = one_published n b inside h (published_below n) (m.stage b) refl
 
-pub idle_is_published : IdleIsPublished
-idle_is_published l rules m laws idle b inside = published_below l rules m laws idle (suc (slice_index l.degrees b)) b inside (omega arith)
+pub where_nothing_is_owed_all_is_published : WhereNothingIsOwedAllIsPublished
+where_nothing_is_owed_all_is_published l rules m laws idle b inside = published_below l rules m laws idle (suc (slice_index l.degrees b)) b inside (omega arith)

@@ -1,14 +1,13 @@
 -- Edges in rising order: how many share a block and a letter.
 use Rattle.std.proofs.Common.{◌≡◌, inl, inr, ℕ, zero, suc, ◌+◌, ◌*◌, ◌<◌, ◌≤◌, Bool, true, false, cond, eqb, ◌&&◌, List, [], ◌∷◌, length, zero-add, refl, sym, ap, ◌∙◌, subst, eq-eqb, arith}
-use Rattle.std.proofs.lemmas.Bool.{eqb-true, false_from_ne_true, and_from}
+use Rattle.std.proofs.lemmas.Bool.{eqb-true, false_from_ne_true, and_from, and_parts}
 use Rattle.std.proofs.lemmas.List.Sums.{get_or-le-sum_by, sum_by-cons}
 use Rattle.std.specs.List.{count_by}
 use Rattle.std.specs.List.Sorted.{IsNonDecreasingBy}
 use mathlib.Core.Logic.{dite}
 use native.Mathlib.Decide.{ℕ_discrete}
-use Rattle.nichols_core.specs.declared.layout.Edge.{Edge}
-use Rattle.nichols_core.specs.Layout.{edge_at, entry_place, IsRisingBy, IsBefore}
-use Rattle.nichols_core.proofs.Stages.{and_left, and_right}
+use Rattle.nichols_core.specs.declared.edge.Edge.{Edge}
+use Rattle.nichols_core.specs.Layout.{no_edge, edge_at, entry_place, IsRisingBy, IsBefore}
 
 -- what stands before the next stands before all that follow
 pub rising : (n : Edge → ℕ) (es : List Edge) → IsRisingBy n es → (j k : ℕ) → j < k → k < length es → n (edge_at es j) < n (edge_at es k)
@@ -47,7 +46,7 @@ pub count_two : (p : Edge → Bool) (es : List Edge) (j k : ℕ) → j < k → k
 count_two p [] j k before inside first second = absurd (omega arith)
 count_two p (e ∷ es) j zero before inside first second = absurd (omega arith)
 count_two p (e ∷ es) zero (suc k) before inside first second =
-    let one : cond {A = ℕ} (p (edge_at es k)) 1 0 ≤ count_by p es = get_or-le-sum_by (λ f. cond (p f) 1 0) es k (record { lower = 0; letter = 0; upper = 0 }) (omega arith) in
+    let one : cond {A = ℕ} (p (edge_at es k)) 1 0 ≤ count_by p es = get_or-le-sum_by (λ f. cond (p f) 1 0) es k no_edge (omega arith) in
     let here : cond {A = ℕ} (p e) 1 0 ≡ 1 = ap (λ t. cond {A = ℕ} t 1 0) first in
     let there : cond {A = ℕ} (p (edge_at es k)) 1 0 ≡ 1 = ap (λ t. cond {A = ℕ} t 1 0) second in
     let total : count_by p (e ∷ es) ≡ cond {A = ℕ} (p e) 1 0 + count_by p es = count-cons p e es in
@@ -67,10 +66,12 @@ module _ (block : Edge → ℕ) where
 
   pub by_same : (b a : ℕ) (e f : Edge) → by b a e ≡ true → by b a f ≡ true → place e ≡ place f
   by_same b a e f p q =
-      let bp = eqb-true (block e) b (and_left (eqb (block e) b) (eqb e.letter a) p) in
-      let bq = eqb-true (block f) b (and_left (eqb (block f) b) (eqb f.letter a) q) in
-      let ap' = eqb-true e.letter a (and_right (eqb (block e) b) (eqb e.letter a) p) in
-      let aq = eqb-true f.letter a (and_right (eqb (block f) b) (eqb f.letter a) q) in
+      let in_e = and_parts (eqb (block e) b) (eqb e.letter a) p in
+      let in_f = and_parts (eqb (block f) b) (eqb f.letter a) q in
+      let block_e = eqb-true (block e) b in_e.0 in
+      let block_f = eqb-true (block f) b in_f.0 in
+      let letter_e = eqb-true e.letter a in_e.1 in
+      let letter_f = eqb-true f.letter a in_f.1 in
       omega arith
 
   pub same_by : (e f : Edge) → e.letter ≤ 24 → f.letter ≤ 24 → place e ≡ place f → (by (block e) e.letter e ≡ true) × (by (block e) e.letter f ≡ true)
@@ -86,7 +87,7 @@ module _ (block : Edge → ℕ) where
   rises es small one sorted k inside =
       let e : Edge = edge_at es k in
       let f : Edge = edge_at es (k + 1) in
-      let at_most : place e ≤ place f = sorted k (k + 1) (record { lower = 0; letter = 0; upper = 0 }) (omega arith) inside in
+      let at_most : place e ≤ place f = sorted k (k + 1) no_edge (omega arith) inside in
       let next : ℕ = k + 1 in
       dite (ℕ_discrete (place e) (place f))
       (λ equal.

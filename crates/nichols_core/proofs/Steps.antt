@@ -1,19 +1,18 @@
 -- What one event does to the stage of one block, and to the marks of one edge.
 use Rattle.std.proofs.Common.{◌≡◌, ◌⊎◌, inl, inr, ℕ, ◌+◌, Bool, true, false, true≢false, cond, eqb, not, ◌&&◌, List, refl, sym, ap, ◌∙◌, subst, arith}
 use Rattle.std.specs.Prelude.{Option, Some, None}
-use Rattle.std.proofs.lemmas.Bool.{eqb-true, not-true}
+use Rattle.std.proofs.lemmas.Bool.{eqb-true, and_parts}
 use Rattle.std.proofs.Math.Bool.{and-false}
-use Rattle.nichols_core.specs.declared.layout.Edge.{Edge}
+use Rattle.nichols_core.specs.declared.edge.Edge.{Edge}
 use Rattle.nichols_core.specs.declared.event.Event.{Event}
 use Rattle.nichols_core.specs.declared.event.Event.TheVariants.{Take, Ask, Pick, Lay, Publish, Release}
-use Rattle.nichols_core.specs.declared.event.Stage.{Stage}
-use Rattle.nichols_core.specs.declared.event.Stage.TheVariants.{Ready, Held, Parked, Resumed, Published}
+use Rattle.nichols_core.specs.declared.stage.Stage.{Stage}
+use Rattle.nichols_core.specs.declared.stage.Stage.TheVariants.{Ready, Held, Parked, Resumed, Published}
 use Rattle.nichols_core.specs.Layout.{edge_at, edge_into, edge_out}
-use Rattle.nichols_core.specs.Machine.{Machine, put, none_picked, all_picked, all_laid, some_edge, by_edge, is_held_by, is_parked, is_parked_on, is_resumed, is_published, can, after, taken, ask, pick, lay, resumed, publish, release}
-use Rattle.nichols_core.specs.Laws.{NonePicked}
+use Rattle.nichols_core.specs.Machine.{Machine, put, some_edge, by_edge, is_parked, is_parked_on, is_resumed, is_published, can, after, stage_after_take, ask, pick, lay, stage_after_publication, publish, release}
+use Rattle.nichols_core.specs.SixLaws.{NonePicked}
 use Rattle.nichols_core.specs.Runs.{one_if, publishes, parks, resumes, releases, picks, lays}
-use Rattle.nichols_core.proofs.Stages.{and_left, and_right, held_by, resumed_by}
-use Rattle.nichols_core.proofs.Events.{none_picked_true}
+use Rattle.nichols_core.proofs.Passes.{passes}
 
 -- the stage of a block before and after an event, and whether the event publishes, parks, resumes or releases it
 pub data Step : Stage → Stage → Bool → Bool → Bool → Bool → Type 0 where
@@ -24,22 +23,22 @@ pub data Step : Stage → Stage → Bool → Bool → Bool → Bool → Type 0 w
   resuming : (w l : ℕ) → Step (Parked l) (Resumed w) false false true false
   releasing : (w : ℕ) → Step (Resumed w) Ready false false false true
 
-taken_step : (w : ℕ) (s : Stage) → Step s (taken w s) false false false false
+taken_step : (w : ℕ) (s : Stage) → Step s (stage_after_take w s) false false false false
 taken_step w Ready = takes w
 taken_step w (Held v) = stays (Held v)
 taken_step w (Parked l) = stays (Parked l)
 taken_step w (Resumed v) = stays (Resumed v)
 taken_step w Published = stays Published
 
-take_step : (w : ℕ) (x : Bool) (s t : Stage) → (x ≡ true → s ≡ t) → Step s (cond x (taken w t) s) false false false false
-take_step w true s t same = subst (λ u. Step s (taken w u) false false false false) (same refl) (taken_step w s)
+take_step : (w : ℕ) (x : Bool) (s t : Stage) → (x ≡ true → s ≡ t) → Step s (cond x (stage_after_take w t) s) false false false false
+take_step w true s t same = subst (λ u. Step s (stage_after_take w u) false false false false) (same refl) (taken_step w s)
 take_step w false s t same = stays s
 
 park_step : (w l : ℕ) (x : Bool) (s : Stage) → (x ≡ true → s ≡ Held w) → Step s (cond x (Parked l) s) false (x && true) false false
 park_step w l true s held = subst (λ u. Step u (Parked l) false true false false) (sym (held refl)) (parking w l)
 park_step w l false s held = stays s
 
-resumed_step : (w b : ℕ) (s : Stage) → Step s (resumed w b s) false false (is_parked_on b s) false
+resumed_step : (w b : ℕ) (s : Stage) → Step s (stage_after_publication w b s) false false (is_parked_on b s) false
 resumed_step w b Ready = stays Ready
 resumed_step w b (Held v) = stays (Held v)
 resumed_step w b (Parked l) = two (eqb l b)
@@ -50,7 +49,7 @@ resumed_step w b (Parked l) = two (eqb l b)
 resumed_step w b (Resumed v) = stays (Resumed v)
 resumed_step w b Published = stays Published
 
-publish_step : (w b : ℕ) (x : Bool) (s : Stage) → (x ≡ true → s ≡ Held w) → Step s (cond x Published (resumed w b s)) x false (is_parked_on b s) false
+publish_step : (w b : ℕ) (x : Bool) (s : Stage) → (x ≡ true → s ≡ Held w) → Step s (cond x Published (stage_after_publication w b s)) x false (is_parked_on b s) false
 publish_step w b true s held = subst (λ u. Step u Published true false (is_parked_on b u) false) (sym (held refl)) (publishing w)
 publish_step w b false s held = resumed_step w b s
 
@@ -95,23 +94,18 @@ module _ (es : List Edge) (m : Machine) (b : ℕ) where
 
   pub step : (event : Event) → Step (m.stage b) ((after es event m).stage b) (publishes b es event m) (parks b es event m) (resumes b es event m) (releases b es event m)
   step (Take w c) = take_step w (eqb b c) (m.stage b) (m.stage c) (λ e. ap m.stage (eqb-true b c e))
-  step (Ask w c a) =
-      let found = some_edge (edge_into es c a) (λ k. true) in
-      ask_step w c (edge_into es c a) (can es (Ask w c a) m) (λ h. held_by w (m.stage c) (and_left (is_held_by w (m.stage c)) found (and_left (is_held_by w (m.stage c) && found) (none_picked es m.picked c) h)))
+  step (Ask w c a) = ask_step w c (edge_into es c a) (can es (Ask w c a) m) (λ h. (passes es m (Ask w c a) h).0)
   step (Pick w c a) = pick_step (edge_into es c a) (can es (Pick w c a) m)
   step (Lay w c a) = lay_step (edge_out es c a) (can es (Lay w c a) m)
-  step (Publish w c) =
-      published_step w c (can es (Publish w c) m)
-      (λ h. held_by w (m.stage c) (and_left (is_held_by w (m.stage c)) (all_picked es m.picked c) (and_left (is_held_by w (m.stage c) && all_picked es m.picked c) (all_laid es m.laid c) h)))
-  step (Release w c) = released_step w c (can es (Release w c) m) (λ h. resumed_by w (m.stage c) h)
+  step (Publish w c) = published_step w c (can es (Publish w c) m) (λ h. (passes es m (Publish w c) h).0)
+  step (Release w c) = released_step w c (can es (Release w c) m) (passes es m (Release w c))
 
   -- where an event parks b, no edge into b is picked
   pub parks_untouched : (event : Event) → parks b es event m ≡ true → NonePicked es m b
   parks_untouched (Ask w c a) h =
-      let yet = some_edge (edge_into es c a) (λ k. not (is_published (m.stage (edge_at es k).lower))) in
-      let asked = and_left (can es (Ask w c a) m && eqb b c) yet h in
-      let none = none_picked_true es m c (and_right (is_held_by w (m.stage c) && some_edge (edge_into es c a) (λ k. true)) (none_picked es m.picked c) (and_left (can es (Ask w c a) m) (eqb b c) asked)) in
-      subst (NonePicked es m) (sym (eqb-true b c (and_right (can es (Ask w c a) m) (eqb b c) asked))) none
+      let yet : Bool = some_edge (edge_into es c a) (λ k. not (is_published (m.stage (edge_at es k).lower))) in
+      let asked = and_parts (can es (Ask w c a) m) (eqb b c) (and_parts (can es (Ask w c a) m && eqb b c) yet h).0 in
+      subst (NonePicked es m) (sym (eqb-true b c asked.1)) (passes es m (Ask w c a) asked.0).2
   parks_untouched (Take w c) h = absurd (true≢false (sym h))
   parks_untouched (Pick w c a) h = absurd (true≢false (sym h))
   parks_untouched (Lay w c a) h = absurd (true≢false (sym h))
@@ -165,17 +159,23 @@ marked true t yet = ap (λ u. 1 + one_if u) (yet refl)
 marked false t yet = omega arith
 
 module _ (es : List Edge) (m : Machine) (k : ℕ) where
-  picked_at : (at : Option ℕ) (t : Bool) (test : ℕ → Bool) → (t ≡ true → some_edge at test ≡ true) → ((j : ℕ) → test j ≡ true → m.picked j ≡ false)
+  picked_at : (at : Option ℕ) (t : Bool) → (t ≡ true → (j : ℕ) × ((at ≡ Some j) × (m.picked j ≡ false)))
       → one_if (t && some_edge at (λ j. eqb k j)) + one_if (m.picked k) ≡ one_if (let n : Machine = cond t (by_edge at pick m) m in n.picked k)
-  picked_at at false test passes yet = omega arith
-  picked_at None true test passes yet = absurd (true≢false (sym (passes refl)))
-  picked_at (Some j) true test passes yet = marked (eqb k j) (m.picked k) (λ e. ap m.picked (eqb-true k j e) ∙ yet j (passes refl))
+  picked_at at false found = omega arith
+  picked_at None true found = let is = (found refl).1.0 in absurd (cc)
+  picked_at (Some i) true found =
+      let is = (found refl).1.0 in
+      let same : i ≡ (found refl).0 = cc in
+      marked (eqb k i) (m.picked k) (λ e. ap m.picked (eqb-true k i e ∙ same) ∙ (found refl).1.1)
 
-  laid_at : (at : Option ℕ) (t : Bool) (test : ℕ → Bool) → (t ≡ true → some_edge at test ≡ true) → ((j : ℕ) → test j ≡ true → m.laid j ≡ false)
+  laid_at : (at : Option ℕ) (t : Bool) → (t ≡ true → (j : ℕ) × ((at ≡ Some j) × (m.laid j ≡ false)))
       → one_if (t && some_edge at (λ j. eqb k j)) + one_if (m.laid k) ≡ one_if (let n : Machine = cond t (by_edge at lay m) m in n.laid k)
-  laid_at at false test passes yet = omega arith
-  laid_at None true test passes yet = absurd (true≢false (sym (passes refl)))
-  laid_at (Some j) true test passes yet = marked (eqb k j) (m.laid k) (λ e. ap m.laid (eqb-true k j e) ∙ yet j (passes refl))
+  laid_at at false found = omega arith
+  laid_at None true found = let is = (found refl).1.0 in absurd (cc)
+  laid_at (Some i) true found =
+      let is = (found refl).1.0 in
+      let same : i ≡ (found refl).0 = cc in
+      marked (eqb k i) (m.laid k) (λ e. ap m.laid (eqb-true k i e ∙ same) ∙ (found refl).1.1)
 
   asked_marks : (c : ℕ) (at : Option ℕ) (t : Bool) (low : ℕ → ℕ) → (let n : Machine = cond t (by_edge at (λ j. ask c (low j)) m) m in (n.picked k ≡ m.picked k) × (n.laid k ≡ m.laid k))
   asked_marks c at false low = (refl, refl)
@@ -206,10 +206,7 @@ module _ (es : List Edge) (m : Machine) (k : ℕ) where
   pub picked_counted : (event : Event) → one_if (picks k es event m) + one_if (m.picked k) ≡ one_if ((after es event m).picked k)
   picked_counted (Take w b) = same_mark (m.picked k) (m.picked k) refl
   picked_counted (Ask w b a) = same_mark (m.picked k) ((after es (Ask w b a) m).picked k) (asked_marks b (edge_into es b a) (can es (Ask w b a) m) (λ j. (edge_at es j).lower)).0
-  picked_counted (Pick w b a) =
-      let test : ℕ → Bool = λ j. is_published (m.stage (edge_at es j).lower) && m.laid j && not (m.picked j) in
-      picked_at (edge_into es b a) (can es (Pick w b a) m) test (λ h. and_right (is_held_by w (m.stage b)) (some_edge (edge_into es b a) test) h)
-      (λ j h. not-true (m.picked j) (and_right (is_published (m.stage (edge_at es j).lower) && m.laid j) (not (m.picked j)) h))
+  picked_counted (Pick w b a) = picked_at (edge_into es b a) (can es (Pick w b a) m) (λ h. let p = passes es m (Pick w b a) h in (p.1.0, (p.1.1.0, p.1.1.3)))
   picked_counted (Lay w b a) = same_mark (m.picked k) ((after es (Lay w b a) m).picked k) (lay_picked (edge_out es b a) (can es (Lay w b a) m))
   picked_counted (Publish w b) = same_mark (m.picked k) ((after es (Publish w b) m).picked k) (other_marks (can es (Publish w b) m) (publish w b m) refl refl).0
   picked_counted (Release w b) = same_mark (m.picked k) ((after es (Release w b) m).picked k) (other_marks (can es (Release w b) m) (release w b m) refl refl).0
@@ -218,9 +215,6 @@ module _ (es : List Edge) (m : Machine) (k : ℕ) where
   laid_counted (Take w b) = same_mark (m.laid k) (m.laid k) refl
   laid_counted (Ask w b a) = same_mark (m.laid k) ((after es (Ask w b a) m).laid k) (asked_marks b (edge_into es b a) (can es (Ask w b a) m) (λ j. (edge_at es j).lower)).1
   laid_counted (Pick w b a) = same_mark (m.laid k) ((after es (Pick w b a) m).laid k) (pick_laid (edge_into es b a) (can es (Pick w b a) m))
-  laid_counted (Lay w b a) =
-      let test : ℕ → Bool = λ j. not (m.laid j) in
-      laid_at (edge_out es b a) (can es (Lay w b a) m) test
-      (λ h. and_right (is_held_by w (m.stage b) && all_picked es m.picked b) (some_edge (edge_out es b a) test) h) (λ j h. not-true (m.laid j) h)
+  laid_counted (Lay w b a) = laid_at (edge_out es b a) (can es (Lay w b a) m) (λ h. let p = passes es m (Lay w b a) h in (p.2.0, (p.2.1.0, p.2.1.1)))
   laid_counted (Publish w b) = same_mark (m.laid k) ((after es (Publish w b) m).laid k) (other_marks (can es (Publish w b) m) (publish w b m) refl refl).1
   laid_counted (Release w b) = same_mark (m.laid k) ((after es (Release w b) m).laid k) (other_marks (can es (Release w b) m) (release w b m) refl refl).1

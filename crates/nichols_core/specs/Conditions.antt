@@ -2,11 +2,11 @@
 use Rattle.std.specs.Prelude.{◌≡◌, ℕ, ◌<◌, ◌↔◌, true, false, IsTrue, List, length, Some}
 use Rattle.nichols_core.specs.Layout.{LayoutValue, IsLayout, edge_at, edge_into, edge_out}
 use Rattle.nichols_core.specs.Machine.{Machine, can}
-use Rattle.nichols_core.specs.Laws.{AllPicked, NonePicked, AllLaid}
-use Rattle.nichols_core.specs.declared.layout.Edge.{Edge}
+use Rattle.nichols_core.specs.SixLaws.{AllPicked, NonePicked, AllLaid}
+use Rattle.nichols_core.specs.declared.edge.Edge.{Edge}
 use Rattle.nichols_core.specs.declared.event.Event.{Event}
 use Rattle.nichols_core.specs.declared.event.Event.TheVariants.{Take, Ask, Pick, Lay, Publish, Release}
-use Rattle.nichols_core.specs.declared.event.Stage.TheVariants.{Held, Resumed, Published}
+use Rattle.nichols_core.specs.declared.stage.Stage.TheVariants.{Held, Resumed, Published}
 
 -- the edge with number k has the letter a, and goes into b
 pub record IsInto (es : List Edge) (b a k : ℕ) : Type 0 where
@@ -32,12 +32,12 @@ Allows es (Publish w b) m = (m.stage b ≡ Held w) × AllPicked es m b × AllLai
 Allows es (Release w b) m = m.stage b ≡ Resumed w
 
 -- in a layout an edge is the one of its letter into its upper block, and out of its lower block
-abbrev pub EdgesByLetter : Type 0
-EdgesByLetter = (l : LayoutValue) → IsLayout l → (k : ℕ) → k < length l.edges
+abbrev pub AnEdgeIsFoundByItsLetter : Type 0
+AnEdgeIsFoundByItsLetter = (l : LayoutValue) → IsLayout l → (k : ℕ) → k < length l.edges
     → (edge_into l.edges (edge_at l.edges k).upper (edge_at l.edges k).letter ≡ Some k)
     × (edge_out l.edges (edge_at l.edges k).lower (edge_at l.edges k).letter ≡ Some k)
 
 -- the test of an event's condition is what the condition asks
-abbrev pub ConditionsAreFacts : Type 0
-ConditionsAreFacts = (l : LayoutValue) → IsLayout l → (event : Event) (m : Machine)
+abbrev pub AConditionIsWhatItAsks : Type 0
+AConditionIsWhatItAsks = (l : LayoutValue) → IsLayout l → (event : Event) (m : Machine)
     → IsTrue (can l.edges event m) ↔ Allows l.edges event m

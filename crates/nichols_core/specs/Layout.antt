@@ -1,15 +1,19 @@
 -- Layouts: the blocks with their degrees, and the edges between them.
 use Rattle.std.specs.Prelude.{◌≡◌, ℕ, ◌+◌, ◌*◌, ◌^◌, ◌<◌, ◌≤◌, ◌⊎◌, ◌==◌, ◌&&◌, Bool, List, length, slice_index, slice_index_or, count_by, All, position, Option}
-use Rattle.nichols_core.specs.declared.layout.Edge.{Edge}
+use Rattle.nichols_core.specs.declared.edge.Edge.{Edge}
 
 -- the degree of each block, and the edges
 pub record LayoutValue : Type 0 where
   pub degrees : List ℕ
   pub edges : List Edge
 
--- the edge with this number; past the last one, an edge of letter 0
+-- what stands past the last edge: an edge of letter 0
+abbrev pub no_edge : Edge
+no_edge = record { lower = 0; letter = 0; upper = 0 }
+
+-- the edge with this number
 abbrev pub edge_at : List Edge → ℕ → Edge
-edge_at es k = slice_index_or es k (record { lower = 0; letter = 0; upper = 0 })
+edge_at es k = slice_index_or es k no_edge
 
 -- whether the edge goes out of the block, or into it, and has the letter
 abbrev pub leaves : ℕ → ℕ → Edge → Bool

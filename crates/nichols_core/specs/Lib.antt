@@ -1,6 +1,7 @@
 pub mod Layout
 pub mod Machine
-pub mod Laws
+pub mod SixLaws
 pub mod Runs
 pub mod States
 pub mod Conditions
+pub mod Changes

@@ -1,9 +1,9 @@
 -- The shelf machine: its states, and its events with their conditions and effects.
 use Rattle.std.specs.Prelude.{ℕ, zero, suc, Bool, true, false, not, ◌==◌, ◌&&◌, ◌||◌, if◌then◌else◌, List, length, Option, Some, None}
 use Rattle.nichols_core.specs.Layout.{edge_at, edge_into, edge_out}
-use Rattle.nichols_core.specs.declared.layout.Edge.{Edge}
-use Rattle.nichols_core.specs.declared.event.Stage.{Stage}
-use Rattle.nichols_core.specs.declared.event.Stage.TheVariants.{Ready, Held, Parked, Resumed, Published}
+use Rattle.nichols_core.specs.declared.edge.Edge.{Edge}
+use Rattle.nichols_core.specs.declared.stage.Stage.{Stage}
+use Rattle.nichols_core.specs.declared.stage.Stage.TheVariants.{Ready, Held, Parked, Resumed, Published}
 use Rattle.nichols_core.specs.declared.event.Event.{Event}
 use Rattle.nichols_core.specs.declared.event.Event.TheVariants.{Take, Ask, Pick, Lay, Publish, Release}
 
@@ -79,14 +79,14 @@ can es (Lay w b a) m =
 can es (Publish w b) m = is_held_by w (m.stage b) && all_picked es m.picked b && all_laid es m.laid b
 can es (Release w b) m = is_resumed_by w (m.stage b)
 
--- a Ready block is Held by w
-abbrev pub taken : ℕ → Stage → Stage
-taken w Ready = Held w
-taken w s = s
+-- the worker w takes a block: a Ready one is Held by w
+abbrev pub stage_after_take : ℕ → Stage → Stage
+stage_after_take w Ready = Held w
+stage_after_take w s = s
 
 -- the worker w takes b: whatever b was, w no longer owes it
 abbrev pub take : ℕ → ℕ → Machine → Machine
-take w b m = record m { stage = put m.stage b (taken w (m.stage b)); owes = put_owed m.owes w b false }
+take w b m = record m { stage = put m.stage b (stage_after_take w (m.stage b)); owes = put_owed m.owes w b false }
 
 -- b is parked on l, where l isn't published
 abbrev pub ask : ℕ → ℕ → Machine → Machine
@@ -98,13 +98,13 @@ pick k m = record m { picked = put m.picked k true }
 abbrev pub lay : ℕ → Machine → Machine
 lay k m = record m { laid = put m.laid k true }
 
--- a block that is parked on b is resumed by w
-abbrev pub resumed : ℕ → ℕ → Stage → Stage
-resumed w b (Parked l) = if l == b then Resumed w else Parked l
-resumed w b s = s
+-- the worker w publishes b: a block that is parked on b is Resumed by w
+abbrev pub stage_after_publication : ℕ → ℕ → Stage → Stage
+stage_after_publication w b (Parked l) = if l == b then Resumed w else Parked l
+stage_after_publication w b s = s
 
 abbrev pub publish : ℕ → ℕ → Machine → Machine
-publish w b m = record m { stage = put (λ c. resumed w b (m.stage c)) b Published }
+publish w b m = record m { stage = put (λ c. stage_after_publication w b (m.stage c)) b Published }
 
 abbrev pub release : ℕ → ℕ → Machine → Machine
 release w b m = record m { stage = put m.stage b Ready; owes = put_owed m.owes w b true }

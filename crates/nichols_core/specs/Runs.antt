@@ -2,9 +2,9 @@
 use Rattle.std.specs.Prelude.{◌≡◌, ◌≢◌, ◌⊎◌, ℕ, ◌+◌, ◌<◌, Bool, true, false, not, ◌==◌, ◌&&◌, if◌then◌else◌, nat_lt, List, [], ◌∷◌, ◌++◌, length}
 use Rattle.nichols_core.specs.Layout.{LayoutValue, IsLayout, edge_at, edge_into, edge_out}
 use Rattle.nichols_core.specs.Machine.{Machine, is_parked, is_parked_on, is_resumed, is_published, some_edge, can, after}
-use Rattle.nichols_core.specs.Laws.{Laws}
-use Rattle.nichols_core.specs.declared.layout.Edge.{Edge}
-use Rattle.nichols_core.specs.declared.event.Stage.TheVariants.{Ready, Held, Parked, Resumed, Published}
+use Rattle.nichols_core.specs.SixLaws.{SixLaws}
+use Rattle.nichols_core.specs.declared.edge.Edge.{Edge}
+use Rattle.nichols_core.specs.declared.stage.Stage.TheVariants.{Ready, Held, Parked, Resumed, Published}
 use Rattle.nichols_core.specs.declared.event.Event.{Event}
 use Rattle.nichols_core.specs.declared.event.Event.TheVariants.{Ask, Pick, Lay, Publish, Release}
 
@@ -23,8 +23,8 @@ unfoldable pub run : List Edge → List Event → Machine → Machine
 run es [] m = m
 run es (e ∷ later) m = run es later (after es e m)
 
-abbrev pub reached : LayoutValue → List Event → Machine
-reached l events = run l.edges events (start (length l.degrees))
+abbrev pub state_reached : LayoutValue → List Event → Machine
+state_reached l events = run l.edges events (start (length l.degrees))
 
 -- 1 or 0
 abbrev pub one_if : Bool → ℕ
@@ -69,65 +69,65 @@ lays k es (Lay w b a) m = can es (Lay w b a) m && some_edge (edge_out es b a) (�
 lays k es _ m = false
 
 -- every event keeps the six laws, whatever the edges are
-abbrev pub EventsKeepLaws : Type 0
-EventsKeepLaws = (es : List Edge) (event : Event) (m : Machine) → Laws es m → Laws es (after es event m)
+abbrev pub EveryEventKeepsTheSixLaws : Type 0
+EveryEventKeepsTheSixLaws = (es : List Edge) (event : Event) (m : Machine) → SixLaws es m → SixLaws es (after es event m)
 
 -- the six laws hold in every state of a run
-abbrev pub RunsMeetLaws : Type 0
-RunsMeetLaws = (l : LayoutValue) → IsLayout l → (events : List Event) → Laws l.edges (reached l events)
+abbrev pub EveryRunMeetsTheSixLaws : Type 0
+EveryRunMeetsTheSixLaws = (l : LayoutValue) → IsLayout l → (events : List Event) → SixLaws l.edges (state_reached l events)
 
 -- this follows from the form of a state alone, in which a block has one stage, and says nothing of the events
-abbrev pub OneHolder : Type 0
-OneHolder = (l : LayoutValue) → IsLayout l → (events : List Event) (b v w : ℕ)
-    → (reached l events).stage b ≡ Held v → (reached l events).stage b ≡ Held w → v ≡ w
+abbrev pub ABlockHasOneHolder : Type 0
+ABlockHasOneHolder = (l : LayoutValue) → IsLayout l → (events : List Event) (b v w : ℕ)
+    → (state_reached l events).stage b ≡ Held v → (state_reached l events).stage b ≡ Held w → v ≡ w
 
 -- a block is published by one event where it is published, and by none elsewhere
-abbrev pub PublishedOnce : Type 0
-PublishedOnce = (l : LayoutValue) → IsLayout l → (events : List Event) (b : ℕ) → b < length l.degrees
-    → times l (publishes b) events ≡ one_if (is_published ((reached l events).stage b))
+abbrev pub ABlockIsPublishedOnce : Type 0
+ABlockIsPublishedOnce = (l : LayoutValue) → IsLayout l → (events : List Event) (b : ℕ) → b < length l.degrees
+    → times l (publishes b) events ≡ one_if (is_published ((state_reached l events).stage b))
 
-abbrev pub PublishedStays : Type 0
-PublishedStays = (l : LayoutValue) → IsLayout l → (events later : List Event) (b : ℕ)
-    → (reached l events).stage b ≡ Published → (reached l (events ++ later)).stage b ≡ Published
+abbrev pub APublishedBlockStaysSo : Type 0
+APublishedBlockStaysSo = (l : LayoutValue) → IsLayout l → (events later : List Event) (b : ℕ)
+    → (state_reached l events).stage b ≡ Published → (state_reached l (events ++ later)).stage b ≡ Published
 
 -- the parkings of a block are its resumptions, and one more where it is parked
-abbrev pub ParkedIsResumed : Type 0
-ParkedIsResumed = (l : LayoutValue) → IsLayout l → (events : List Event) (b : ℕ)
-    → times l (parks b) events ≡ times l (resumes b) events + one_if (is_parked ((reached l events).stage b))
+abbrev pub EachParkingIsResumedOnce : Type 0
+EachParkingIsResumedOnce = (l : LayoutValue) → IsLayout l → (events : List Event) (b : ℕ)
+    → times l (parks b) events ≡ times l (resumes b) events + one_if (is_parked ((state_reached l events).stage b))
 
 -- the resumptions of a block are its releases, and one more where it is resumed
-abbrev pub ResumedIsReleased : Type 0
-ResumedIsReleased = (l : LayoutValue) → IsLayout l → (events : List Event) (b : ℕ)
-    → times l (resumes b) events ≡ times l (releases b) events + one_if (is_resumed ((reached l events).stage b))
+abbrev pub EachResumptionIsReleasedOnce : Type 0
+EachResumptionIsReleasedOnce = (l : LayoutValue) → IsLayout l → (events : List Event) (b : ℕ)
+    → times l (resumes b) events ≡ times l (releases b) events + one_if (is_resumed ((state_reached l events).stage b))
 
 -- the publication of a block resumes each block that is parked on it
-abbrev pub PublicationResumes : Type 0
-PublicationResumes = (l : LayoutValue) → IsLayout l → (events : List Event) (w b low : ℕ)
-    → (reached l events).stage b ≡ Parked low → can l.edges (Publish w low) (reached l events) ≡ true
-    → (reached l (events ++ Publish w low ∷ [])).stage b ≡ Resumed w
+abbrev pub APublicationResumesWhatWaits : Type 0
+APublicationResumesWhatWaits = (l : LayoutValue) → IsLayout l → (events : List Event) (w b low : ℕ)
+    → (state_reached l events).stage b ≡ Parked low → can l.edges (Publish w low) (state_reached l events) ≡ true
+    → (state_reached l (events ++ Publish w low ∷ [])).stage b ≡ Resumed w
 
 -- from a pick on, the worker who picked holds the block until it is published
-abbrev pub HeldFromPick : Type 0
-HeldFromPick = (l : LayoutValue) → IsLayout l → (events later : List Event) (w b a : ℕ)
-    → can l.edges (Pick w b a) (reached l events) ≡ true
-    → ((reached l (events ++ Pick w b a ∷ later)).stage b ≡ Held w) ⊎ ((reached l (events ++ Pick w b a ∷ later)).stage b ≡ Published)
+abbrev pub APickerHoldsUntilPublication : Type 0
+APickerHoldsUntilPublication = (l : LayoutValue) → IsLayout l → (events later : List Event) (w b a : ℕ)
+    → can l.edges (Pick w b a) (state_reached l events) ≡ true
+    → ((state_reached l (events ++ Pick w b a ∷ later)).stage b ≡ Held w) ⊎ ((state_reached l (events ++ Pick w b a ∷ later)).stage b ≡ Published)
 
 -- an edge is picked by one event where it is picked, and by none elsewhere
-abbrev pub PickedOnce : Type 0
-PickedOnce = (l : LayoutValue) → IsLayout l → (events : List Event) (k : ℕ)
-    → times l (picks k) events ≡ one_if ((reached l events).picked k)
+abbrev pub AnEdgeIsPickedOnce : Type 0
+AnEdgeIsPickedOnce = (l : LayoutValue) → IsLayout l → (events : List Event) (k : ℕ)
+    → times l (picks k) events ≡ one_if ((state_reached l events).picked k)
 
 -- an edge is laid by one event where it is laid, and by none elsewhere
-abbrev pub LaidOnce : Type 0
-LaidOnce = (l : LayoutValue) → IsLayout l → (events : List Event) (k : ℕ)
-    → times l (lays k) events ≡ one_if ((reached l events).laid k)
+abbrev pub AnEdgeIsLaidOnce : Type 0
+AnEdgeIsLaidOnce = (l : LayoutValue) → IsLayout l → (events : List Event) (k : ℕ)
+    → times l (lays k) events ≡ one_if ((state_reached l events).laid k)
 
 -- no worker holds the block, has resumed it or owes it
 abbrev pub IsIdle : Machine → ℕ → Type 0
 IsIdle m b = (w : ℕ) → (m.stage b ≢ Held w) × (m.stage b ≢ Resumed w) × (m.owes w b ≡ false)
 
 -- in every state that meets the laws: where no block is held, resumed or owed, every block is published
-abbrev pub IdleIsPublished : Type 0
-IdleIsPublished = (l : LayoutValue) → IsLayout l → (m : Machine) → Laws l.edges m
+abbrev pub WhereNothingIsOwedAllIsPublished : Type 0
+WhereNothingIsOwedAllIsPublished = (l : LayoutValue) → IsLayout l → (m : Machine) → SixLaws l.edges m
     → ((b : ℕ) → b < length l.degrees → IsIdle m b)
     → (b : ℕ) → b < length l.degrees → m.stage b ≡ Published

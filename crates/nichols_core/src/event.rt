@@ -1,19 +1,4 @@
-//! The stages of a block and the events of the shelf machine.
-
-/// Where a block stands.
-#[derive(Clone, Copy, Debug, PartialEq, Eq, Drop)]
-pub enum Stage {
-    /// Some worker owes it and may take it.
-    Ready,
-    /// The worker is making it.
-    Held(u32),
-    /// Its holder found that this lower block isn't published, and let it go.
-    Parked(u32),
-    /// The block that it waited for was published by this worker, who has to release it.
-    Resumed(u32),
-    /// It is made, and its value is at all edges out of it.
-    Published,
-}
+//! The events of the shelf machine.
 
 /// What a worker does to a block. A letter is from 1 to 24.
 #[derive(Clone, Copy, Debug, PartialEq, Eq, Drop)]

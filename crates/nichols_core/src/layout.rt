@@ -1,19 +1,11 @@
-//! Layouts: blocks with their degrees, and the edges between them.
+//! Layouts: blocks with their degrees, the edges between them, and the search for an edge at a block.
 
-ghost use Rattle.std.specs.Prelude.{◌≡◌, ◌+◌, ◌*◌, ◌^◌, ◌<◌, ◌↔◌, length, IsTrue, IsSome, IfSome, IfOk, All, IsPermutation, vec_len};
-ghost use Rattle.std.specs.List.Sorted.{IsNonDecreasingBy};
-ghost use Rattle.nichols_core.specs.Layout.{IsPlaced, CanLayOut, IsLayout, IsRisingBy, exit_place, entry_place};
+ghost use Rattle.std.specs.Prelude.{◌≡◌, ◌+◌, ◌*◌, ◌^◌, ◌<◌, ◌≤◌, ◌↔◌, ℕ, length, vec_len, IsTrue, IsSome, IfSome, IfOk, All, IsPermutation};
+ghost use Rattle.nichols_core.specs.Layout.{IsPlaced, CanLayOut, IsLayout, edge_at, edge_into, edge_out, entry_place};
 
+use crate::edge::{Edge, enter_apart, entry_place, leave_apart, sort_by_entry, sort_by_exit};
 use std::alloc::{AllocError, Global};
 use std::marker::Model;
-
-/// An edge from a block to one of the next degree, with a letter from 1 to 24. Blocks count from 0.
-#[derive(Clone, Copy, Debug, PartialEq, Eq, Drop)]
-pub struct Edge {
-    pub lower: u32,
-    pub letter: u8,
-    pub upper: u32,
-}
 
 const LAST_LETTER: u8 = 24;
 
@@ -66,6 +58,68 @@ impl Layout {
         let edges = Vec::from_slice(alloc, &self.edges)?;
         Ok(Layout { degrees, edges })
     }
+
+    /// Tells a caller that this is a layout: that its edges are placed, apart and in their order.
+    pub fn meets_its_rules(&self)
+        ensures { IsLayout self.now }
+    {
+        let _ = &self.edges;
+    }
+
+    /// The edge with this number.
+    pub fn edge(&self, number: usize) -> Edge
+        requires { number < length self.now.edges }
+        ensures edge { result ≡ edge_at self.now.edges number }
+        ensures placed { IsPlaced self.now.degrees result }
+    {
+        self.edges[number]
+    }
+
+    /// The number of the edge of that letter into the block.
+    pub fn edge_into(&self, block: u32, letter: u8) -> Option<usize>
+        ensures { result ≡ edge_into self.now.edges block letter }
+    {
+        let number = self.entries_before(block, letter);
+        if number == self.edges.len() {
+            return None;
+        }
+        let edge = self.edges[number];
+        if edge.upper == block && edge.letter == letter {
+            Some(number)
+        } else {
+            None
+        }
+    }
+
+    /// The number of the edge of that letter out of the block.
+    pub fn edge_out(&self, block: u32, letter: u8) -> Option<usize>
+        ensures { result ≡ edge_out self.now.edges block letter }
+    {
+        self.edges
+            .iter()
+            .position(|edge| edge.lower == block && edge.letter == letter)
+    }
+
+    /// The numbers of the edges into the block, which stand together: the first of them, and the first one
+    /// past them.
+    pub fn entries(&self, block: u32) -> (usize, usize)
+        ensures bound { result.1 ≤ length self.now.edges }
+        ensures entries { (k : ℕ) → k < length self.now.edges → ((edge_at self.now.edges k).upper ≡ block) ↔ ((result.0 ≤ k) × (k < result.1)) }
+    {
+        let first = self.edges.partition_point(|edge| edge.upper < block);
+        let end = self.edges.partition_point(|edge| edge.upper <= block);
+        (first, end)
+    }
+
+    /// How many edges stand before the place of the edge of that letter into the block.
+    fn entries_before(&self, block: u32, letter: u8) -> usize
+        ensures bound { result ≤ length self.now.edges }
+        ensures before { (k : ℕ) → k < result → entry_place (edge_at self.now.edges k) < block * 256 + letter }
+        ensures rest { (k : ℕ) → result ≤ k → k < length self.now.edges → block * 256 + letter ≤ entry_place (edge_at self.now.edges k) }
+    {
+        let place = u64::from(block) * 256 + u64::from(letter);
+        self.edges.partition_point(|edge| entry_place(edge) < place)
+    }
 }
 
 fn are_placed(degrees: &[u32], edges: &[Edge]) -> bool
@@ -85,56 +139,4 @@ fn is_placed(degrees: &[u32], edge: &Edge) -> bool
     }
     let rises = degrees[lower] < degrees[upper] && degrees[upper] - degrees[lower] == 1;
     rises && 1 <= edge.letter && edge.letter <= LAST_LETTER
-}
-
-/// A number that rises with the lower block, and then with the letter.
-fn exit_place(edge: &Edge) -> u64
-    ensures { result ≡ exit_place edge.now }
-{
-    u64::from(edge.lower) * 256 + u64::from(edge.letter)
-}
-
-/// A number that rises with the upper block, and then with the letter.
-pub(crate) fn entry_place(edge: &Edge) -> u64
-    ensures { result ≡ entry_place edge.now }
-{
-    u64::from(edge.upper) * 256 + u64::from(edge.letter)
-}
-
-fn sort_by_exit(edges: &mut Vec<Edge>)
-    ensures permutation { IsPermutation edges.old.items edges.new.items }
-    ensures sorted { IsNonDecreasingBy exit_place edges.new.items }
-{
-    edges.sort_unstable_by_key(|edge| exit_place(edge));
-}
-
-fn sort_by_entry(edges: &mut Vec<Edge>)
-    ensures permutation { IsPermutation edges.old.items edges.new.items }
-    ensures sorted { IsNonDecreasingBy entry_place edges.new.items }
-{
-    edges.sort_unstable_by_key(|edge| entry_place(edge));
-}
-
-/// Whether the places at which the edges leave their lower blocks rise, so that no two are equal.
-fn leave_apart(edges: &[Edge]) -> bool
-    ensures { IsTrue result ↔ IsRisingBy exit_place edges.now }
-{
-    for i in 1..edges.len() {
-        if exit_place(&edges[i - 1]) >= exit_place(&edges[i]) {
-            return false;
-        }
-    }
-    true
-}
-
-/// Whether the places at which the edges enter their upper blocks rise, so that no two are equal.
-fn enter_apart(edges: &[Edge]) -> bool
-    ensures { IsTrue result ↔ IsRisingBy entry_place edges.now }
-{
-    for i in 1..edges.len() {
-        if entry_place(&edges[i - 1]) >= entry_place(&edges[i]) {
-            return false;
-        }
-    }
-    true
 }

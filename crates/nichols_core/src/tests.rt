@@ -5,6 +5,7 @@ ghost use Rattle.nichols_core.specs.declared.event.Event.TheVariants.{Take, Ask,
 use crate::{Edge, Event, Layout, Stage, State};
 use std::alloc::{AllocError, Global};
 use std::test::Fail;
+use std::thread::join;
 
 /// The layout with these degrees and these two edges, each as its lower block, letter and upper block.
 fn two_edges(
@@ -67,14 +68,25 @@ fn edges_rise_by_upper_block_and_letter(rt: HostRuntime) -> Result<(), Fail> {
     let Some(layout) = two_edges(rt.alloc(), &[1, 2, 2, 3], [(0, 1, 2), (0, 2, 1)])? else {
         panic!(rt; "no layout");
     };
+    let rising = [
+        Edge {
+            lower: 0,
+            letter: 2,
+            upper: 1,
+        },
+        Edge {
+            lower: 0,
+            letter: 1,
+            upper: 2,
+        },
+    ];
     let copy = layout.copy(rt.alloc())?;
-    let first = Edge {
-        lower: 0,
-        letter: 2,
-        upper: 1,
-    };
-    assert!(rt; layout.edges.first() == Some(&first) && copy.edges.first() == Some(&first));
+    assert_eq!(rt; layout.edges.as_slice(), rising.as_slice());
+    assert_eq!(rt; copy.edges.as_slice(), rising.as_slice());
     assert_eq!(rt; copy.degrees.as_slice(), [1, 2, 2, 3].as_slice());
+    assert!(rt; layout.edge_into(2, 1) == Some(1) && layout.edge_into(2, 2).is_none());
+    assert!(rt; layout.edge_out(0, 2) == Some(0) && layout.edge_out(1, 2).is_none());
+    assert!(rt; layout.entries(0) == (0, 0) && layout.entries(2) == (1, 2));
     Ok(())
 }
 
@@ -153,6 +165,24 @@ fn step(state: &mut State, layout: &Layout, event: Event) -> bool
 }
 
 #[test]
+fn at_the_start_worker_0_owes_all(rt: HostRuntime) -> Result<(), Fail> {
+    let Some(layout) = two_blocks(rt.alloc())? else {
+        panic!(rt; "no layout");
+    };
+    let state = State::start(rt.alloc(), &layout, 2)?;
+    for block in 0..2 {
+        assert!(rt; state.stage(block) == Stage::Ready, "block {block}");
+        assert!(rt;
+            state.owes(0, block) && !state.owes(1, block),
+            "block {block}"
+        );
+    }
+    assert!(rt; layout.edges.len() == 1);
+    assert!(rt; !state.laid(0) && !state.picked(0));
+    Ok(())
+}
+
+#[test]
 fn a_parked_block_is_resumed(rt: HostRuntime) -> Result<(), Fail> {
     let Some(layout) = two_blocks(rt.alloc())? else {
         panic!(rt; "no layout");
@@ -170,6 +200,7 @@ fn a_parked_block_is_resumed(rt: HostRuntime) -> Result<(), Fail> {
     Ok(())
 }
 
+/// A take of a block that is resumed holds nothing: the block has to be released first.
 #[test]
 fn one_worker_publishes_both(rt: HostRuntime) -> Result<(), Fail> {
     let Some(layout) = two_blocks(rt.alloc())? else {
@@ -178,13 +209,17 @@ fn one_worker_publishes_both(rt: HostRuntime) -> Result<(), Fail> {
     let mut state = State::start(rt.alloc(), &layout, 1)?;
     assert!(rt; step(&mut state, &layout, take(0, 1)));
     assert!(rt; step(&mut state, &layout, ask(0, 1, 1)));
+    assert!(rt; state.stage(1) == Stage::Parked(0));
     assert!(rt; step(&mut state, &layout, take(0, 0)));
     assert!(rt; step(&mut state, &layout, lay(0, 0, 1)));
     assert!(rt; step(&mut state, &layout, publish(0, 0)));
     assert!(rt; state.stage(1) == Stage::Resumed(0));
+    assert!(rt; step(&mut state, &layout, take(0, 1)));
+    assert!(rt; state.stage(1) == Stage::Resumed(0) && !state.owes(0, 1));
     assert!(rt; step(&mut state, &layout, release(0, 1)));
     assert!(rt; step(&mut state, &layout, take(0, 1)));
     assert!(rt; step(&mut state, &layout, ask(0, 1, 1)));
+    assert!(rt; state.stage(1) == Stage::Held(0));
     assert!(rt; step(&mut state, &layout, pick(0, 1, 1)));
     assert!(rt; step(&mut state, &layout, publish(0, 1)));
     assert!(rt; state.stage(0) == Stage::Published && state.stage(1) == Stage::Published);
@@ -197,11 +232,21 @@ fn one_worker_publishes_both(rt: HostRuntime) -> Result<(), Fail> {
 fn crosses_threads<T: Send + Sync + Drop>(_value: T) {}
 
 #[test]
-fn layouts_and_states_cross_threads(rt: HostRuntime) -> Result<(), Fail> {
+fn all_types_cross_threads(rt: HostRuntime) -> Result<(), Fail> {
     let Some(layout) = two_blocks(rt.alloc())? else {
         panic!(rt; "no layout");
     };
-    crosses_threads(State::start(rt.alloc(), &layout, 1)?);
+    let state = State::start(rt.alloc(), &layout, 1)?;
+    let (into, out) = join(&rt, || layout.edge_into(1, 1), || layout.edge_out(0, 1));
+    assert!(rt; into == Some(0) && out == Some(0));
+    crosses_threads(state);
     crosses_threads(layout);
+    crosses_threads(Stage::Ready);
+    crosses_threads(take(0, 0));
+    crosses_threads(Edge {
+        lower: 0,
+        letter: 1,
+        upper: 1,
+    });
     Ok(())
 }

@@ -1,5 +1,5 @@
-use Rattle.nichols_core.proofs.RunsKept.{one_holder}
+use Rattle.nichols_core.proofs.RunsKept.{a_block_has_one_holder}
 use Rattle.nichols_core.proofs.laws.a_block_has_one_holder.Goals as goal
 
 pub returns : goal.returns
-returns c = one_holder
+returns c = a_block_has_one_holder

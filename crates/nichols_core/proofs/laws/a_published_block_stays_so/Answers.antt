@@ -1,5 +1,5 @@
-use Rattle.nichols_core.proofs.RunsKept.{published_stays_so}
+use Rattle.nichols_core.proofs.RunsKept.{a_published_block_stays_so}
 use Rattle.nichols_core.proofs.laws.a_published_block_stays_so.Goals as goal
 
 pub returns : goal.returns
-returns c = published_stays_so
+returns c = a_published_block_stays_so

@@ -1,5 +1,5 @@
-use Rattle.nichols_core.proofs.RunsKept.{picked_once}
+use Rattle.nichols_core.proofs.RunsKept.{an_edge_is_picked_once}
 use Rattle.nichols_core.proofs.laws.an_edge_is_picked_once.Goals as goal
 
 pub returns : goal.returns
-returns c = picked_once
+returns c = an_edge_is_picked_once

@@ -1,5 +1,5 @@
-use Rattle.nichols_core.proofs.RunsKept.{parked_is_resumed}
+use Rattle.nichols_core.proofs.RunsKept.{each_parking_is_resumed_once}
 use Rattle.nichols_core.proofs.laws.each_parking_is_resumed_once.Goals as goal
 
 pub returns : goal.returns
-returns c = parked_is_resumed
+returns c = each_parking_is_resumed_once

@@ -1,5 +1,5 @@
-use Rattle.nichols_core.proofs.RunsKept.{runs_meet_laws}
+use Rattle.nichols_core.proofs.RunsKept.{every_run_meets_the_six_laws}
 use Rattle.nichols_core.proofs.laws.every_run_meets_the_six_laws.Goals as goal
 
 pub returns : goal.returns
-returns c = runs_meet_laws
+returns c = every_run_meets_the_six_laws

@@ -1,0 +1,6 @@
+use Rattle.std.proofs.Common.{ℕ, ◌+◌, ◌<◌}
+use Rattle.nichols_core.specs.Layout.{edge_at, exit_place}
+use Rattle.nichols_core.proofs.edge.leave_apart.Given as goal
+
+abbrev pub invariant-loop-i : goal.invariant-loop-i
+invariant-loop-i l = (k : ℕ) → k + 1 < l.i → exit_place (edge_at l.edges k) < exit_place (edge_at l.edges (k + 1))
