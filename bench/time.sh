@@ -8,7 +8,7 @@ if [ ! -x "$program" ]; then
     exit 1
 fi
 TIMEFORMAT='%U s'
-for size in '4000 8 4000 101' '8000 8 4000 101' '20000 4 1000000 65521' '40000 4 1000000 65521'; do
+for size in '1000 8 1000 101' '2000 8 1000 101' '20000 4 1000000 65521' '40000 4 1000000 65521'; do
     echo "rows, cells a row, columns, modulus: $size"
     # shellcheck disable=SC2086
     time "$program" $size
