@@ -1,11 +1,10 @@
 -- Each braid is what the rows and scalars that give it are made to.
-use Rattle.std.proofs.Common.{◌≡◌, ◌≢◌, ℕ, zero, suc, ◌+◌, ◌-◌, ◌*◌, ◌<◌, ◌≤◌, Bool, true, false, cond, ◌&&◌, List, [], ◌∷◌, ◌++◌, map, length, take, refl, sym, ◌∙◌, ap, ap₂, subst, arith, Some, None, nat_eq, nat_lt, append_assoc, append-nil}
+use Rattle.std.proofs.Common.{◌≡◌, ◌≢◌, ℕ, zero, suc, ◌+◌, ◌-◌, ◌*◌, ◌<◌, ◌≤◌, Bool, true, false, cond, ◌&&◌, List, [], ◌∷◌, ◌++◌, map, length, take, refl, sym, ◌∙◌, ap, ap₂, subst, arith, Some, None, nat_eq, nat_lt, append-nil}
 use Rattle.std.specs.Prelude.{Ok, ℤ, pos, slice_index}
 use Rattle.std.specs.List.{flat_map}
 use Rattle.std.specs.Option.{option_map, option_or}
 use Rattle.std.proofs.Math.Nat.{suc-mul}
-use Rattle.std.proofs.Math.Seq.{take-suc}
-use Rattle.std.proofs.lemmas.List.{map-append, take_all}
+use Rattle.std.proofs.lemmas.List.{take_all}
 use Rattle.std.proofs.lemmas.Grind.{flat_map-append}
 use Rattle.std.proofs.lemmas.Bool.Decides.{nat_tests, Decides-eqb}
 use Rattle.nichols_field.specs.Field.{FieldValue, IsField, times}
@@ -16,6 +15,7 @@ use Rattle.nichols_braid.specs.TableLaws.{IsSquare, HasPlaces, IsAsGiven, Braids
 use Rattle.nichols_braid.specs.Tables.{RackEntries, image, with_scalars}
 use Rattle.nichols_braid.specs.GivenScalars.{GivenScalars, constant, table}
 use Rattle.nichols_braid.specs.GivenTables.{row_at, integer_at, given_rack, given_cocycle, given_tables}
+use Rattle.nichols_braid.proofs.AtLetters.{row_taken, same_row}
 use Rattle.nichols_braid.proofs.AsGiven.{letter_at, scalar_at}
 use Rattle.nichols_braid.proofs.FirstFault.{is_accepted}
 use Rattle.nichols_braid.proofs.FirstAnswers.{no_triple}
@@ -23,17 +23,6 @@ use Rattle.nichols_braid.proofs.FirstPlaces.{no_pair}
 use Rattle.nichols_braid.proofs.GivenRows.{IsFaultless, square_fits, letter_passes, rack_is_table, cocycle_is_table}
 
 -- ---- a table is its rows, one after the other
-
-row_taken : (xs : List ℕ) (b c : ℕ) → b + c ≤ length xs → take b xs ++ map (λ j. slice_index xs (b + (j - 1))) (up_to c) ≡ take (b + c) xs
-row_taken xs b zero h = append-nil (take b xs) ∙ ap (λ m. take m xs) (let e : b ≡ b + 0 = omega arith in e)
-row_taken xs b (suc c) h =
-    let f : ℕ → ℕ = λ j. slice_index xs (b + (j - 1)) in
-    ap (λ ys. take b xs ++ ys) (map-append f (up_to c) (suc c ∷ []))
-    ∙ sym (append_assoc (take b xs) (map f (up_to c)) (f (suc c) ∷ []))
-    ∙ ap (λ ys. ys ++ f (suc c) ∷ []) (row_taken xs b c (omega arith))
-    ∙ ap (λ m. take (b + c) xs ++ slice_index xs m ∷ []) (let e : b + (suc c - 1) ≡ b + c = omega arith in e)
-    ∙ sym (take-suc xs (b + c) 0 (omega arith))
-    ∙ ap (λ m. take m xs) (let e : suc (b + c) ≡ b + suc c = omega arith in e)
 
 rows_taken : (n : ℕ) (xs : List ℕ) (m : ℕ) → m * n ≤ length xs → flat_map (λ i. map (entry n xs i) (up_to n)) (up_to m) ≡ take (m * n) xs
 unfolding entry
@@ -51,13 +40,6 @@ rows_taken n xs (suc m) h =
 -- the table is its entries at all letters
 is_flat : (n : ℕ) (xs : List ℕ) → length xs ≡ n * n → flat_map (λ i. map (entry n xs i) (up_to n)) (up_to n) ≡ xs
 is_flat n xs size = rows_taken n xs n (omega arith) ∙ take_all (n * n) xs (omega arith)
-
-same_row : (f g : ℕ → ℕ) (n : ℕ) → ((j : ℕ) → IsLetterOf n j → f j ≡ g j) → map f (up_to n) ≡ map g (up_to n)
-same_row f g zero h = refl
-same_row f g (suc n) h =
-    map-append f (up_to n) (suc n ∷ [])
-    ∙ ap₂ (λ xs y. xs ++ y ∷ []) (same_row f g n (λ j l. h j (l.0, omega (arith, l.1)))) (h (suc n) (omega arith, omega arith))
-    ∙ sym (map-append g (up_to n) (suc n ∷ []))
 
 same_rows : (f g : ℕ → List ℕ) (n : ℕ) → ((i : ℕ) → IsLetterOf n i → f i ≡ g i) → flat_map f (up_to n) ≡ flat_map g (up_to n)
 same_rows f g zero h = refl

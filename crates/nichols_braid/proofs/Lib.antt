@@ -11,6 +11,13 @@ pub mod RowFaults
 pub mod NewBraid
 pub mod TestedTables
 pub mod Lists
+pub mod AtLetters
+pub mod InlineProducts
+pub mod LetterSearch
+pub mod EachOnce
+pub mod NextProducts
+pub mod Indexed
+pub mod ProductListLaws
 pub mod Maps
 pub mod Rule
 pub mod Killed
@@ -20,7 +27,7 @@ pub mod Counts
 pub mod Permutations
 pub mod Degrees
 pub mod Prefixes
-pub mod Products
+pub mod KeptProducts
 pub mod LeftProducts
 pub mod Onto
 pub mod Carried
@@ -52,3 +59,9 @@ pub mod FirstDegree
 pub mod Complete
 pub mod AsGiven
 pub mod NamedFaults
+pub mod Transposed
+pub mod OrderedPairs
+pub mod Numbered
+pub mod PointsTables
+pub mod PointsBraid
+pub mod PointsLaws

@@ -19,7 +19,7 @@ use Rattle.nichols_braid.specs.Product.{moved, product_of, unact, product_before
 use Rattle.nichols_braid.specs.Rearrangement.{IsRearrangement}
 use Rattle.nichols_braid.proofs.Counts.{in_front_and_rest}
 use Rattle.nichols_braid.proofs.Lists.{map-map}
-use Rattle.nichols_braid.proofs.Products.{MoveAlike, moved-append}
+use Rattle.nichols_braid.proofs.KeptProducts.{MoveAlike, moved-append}
 use Rattle.nichols_braid.proofs.Rearranged.{up_to_distinct}
 
 -- ---- lists without repeats
@@ -64,7 +64,7 @@ distinct-map f P once (x ∷ xs) all d = (each xs all.1 d.0, distinct-map f P on
 all_letters : (n : ℕ) → AllByRecursion (λ a. (1 ≤ a) × (a ≤ n)) (up_to n)
 all_letters n = all_of_entries (λ a. (1 ≤ a) × (a ≤ n)) (up_to n) (from_up_to n)
 
-acted_rearranges : (braid : BraidValue) → IsRack braid → (a : ℕ) → IsLetter braid a → IsRearrangement braid.letters (map (act braid a) (up_to braid.letters))
+pub acted_rearranges : (braid : BraidValue) → IsRack braid → (a : ℕ) → IsLetter braid a → IsRearrangement braid.letters (map (act braid a) (up_to braid.letters))
 acted_rearranges braid rack a la =
     let n : ℕ = braid.letters in
     let images : List ℕ = map (act braid a) (up_to n) in
@@ -102,7 +102,7 @@ product_is_rearrangement braid rack (x ∷ w) over =
     (IsPermutation-trans letters (map (act braid x) letters) (map (act braid x) (map (moved braid w) letters)) (acted_rearranges braid rack x over.0)
     (IsPermutation-map (act braid x) letters (map (moved braid w) letters) (product_is_rearrangement braid rack w over.1)))
 
-up_to_at : (n i : ℕ) → i < n → slice_index (up_to n) i ≡ suc i
+pub up_to_at : (n i : ℕ) → i < n → slice_index (up_to n) i ≡ suc i
 up_to_at zero i less = absurd (omega arith)
 up_to_at (suc n) i less =
     elim (cases_lt i n) [
@@ -113,7 +113,7 @@ up_to_at (suc n) i less =
     ]
 
 -- the entry of a product for a letter is where the word sends it
-image_at : (braid : BraidValue) (w : List ℕ) (c : ℕ) → IsLetter braid c → slice_index (product_of braid w) (c - 1) ≡ moved braid w c
+pub image_at : (braid : BraidValue) (w : List ℕ) (c : ℕ) → IsLetter braid c → slice_index (product_of braid w) (c - 1) ≡ moved braid w c
 unfolding product_of
 image_at braid w c l =
     let n : ℕ = braid.letters in

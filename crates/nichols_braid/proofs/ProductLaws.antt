@@ -6,7 +6,7 @@ use Rattle.nichols_braid.specs.Braid.{act}
 use Rattle.nichols_braid.specs.Derivation.{derived_word}
 use Rattle.nichols_braid.specs.Product.{product_of, unact, product_before}
 use Rattle.nichols_braid.specs.ProductLaws.{ProductsAreBijections, UnactIsBeforeAct, ProductBeforeALetter, CrossingKeepsProduct, CrossingsKeepProduct, LiftsKeepProduct, DerivativesKeepProduct, ProductsOfDerivatives, KernelSplitsByProduct, KilledSplitsByProduct}
-use Rattle.nichols_braid.proofs.Products.{MoveAlike, same_product, cross_product, crossed_product, lifts_product, derived_alike}
+use Rattle.nichols_braid.proofs.KeptProducts.{MoveAlike, same_product, cross_product, crossed_product, lifts_product, derived_alike}
 use Rattle.nichols_braid.proofs.Onto.{unact_is_before, product_is_rearrangement, product_before_alike}
 use Rattle.nichols_braid.proofs.SplitByProduct.{kernel_part, kernel_from_parts, killed_part, killed_from_parts}
 

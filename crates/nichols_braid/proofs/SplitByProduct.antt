@@ -21,7 +21,7 @@ use Rattle.nichols_braid.specs.Kernel.{IsKilled, IsInKernel}
 use Rattle.nichols_braid.specs.Product.{product_of, has_product, part_of_product}
 use Rattle.nichols_braid.proofs.Degrees.{AllWords, derived_over}
 use Rattle.nichols_braid.proofs.Killed.{killed_same, killed_zero, killed-append, kernel_same, kernel-append}
-use Rattle.nichols_braid.proofs.Products.{MoveAlike, same_product, alike_before, lifts_product, derived_alike}
+use Rattle.nichols_braid.proofs.KeptProducts.{MoveAlike, same_product, alike_before, lifts_product, derived_alike}
 
 -- ---- parts of combinations
 

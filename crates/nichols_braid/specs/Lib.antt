@@ -9,7 +9,10 @@ pub mod WholeKernel
 pub mod RightProduct
 pub mod LeftProduct
 pub mod Product
+pub mod ProductFields
 pub mod Least
+pub mod Products
+pub mod ProductIndex
 pub mod NewWords
 pub mod SideForms
 pub mod WholeForm
@@ -20,6 +23,8 @@ pub mod GivenTables
 pub mod Tables
 pub mod Faults
 pub mod FaultAnswers
+pub mod Transpositions
+pub mod Points
 -- the statements of the laws, and their words
 pub mod LinearMap
 pub mod LinearTest
@@ -29,6 +34,7 @@ pub mod Rearrangement
 pub mod Laws
 pub mod LeftLaws
 pub mod ProductLaws
+pub mod ProductListLaws
 pub mod LeastLaws
 pub mod FormLaws
 pub mod NewWordLaws
@@ -36,5 +42,6 @@ pub mod WholeLaws
 pub mod EndLaws
 pub mod FaultLaws
 pub mod TableLaws
+pub mod PointsLaws
 -- what this crate's own functions cite
 pub mod RackLaws

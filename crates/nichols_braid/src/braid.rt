@@ -1,10 +1,14 @@
 //! Braids.
 
-ghost use Rattle.std.specs.Prelude.{◌≡◌, ◌≢◌, IfOk, IfSome, MatchResult, Ok, Err, map};
+mod points;
+
+ghost use Rattle.std.specs.Prelude.{◌≡◌, ◌≢◌, ◌∷◌, [], IfOk, IfSome, MatchResult, Ok, Err, map};
 ghost use Rattle.nichols_braid.specs.Braid.{IsBraid, IsLetter, act, scalar};
 ghost use Rattle.nichols_braid.specs.FaultAnswers.{table_fault_in};
 ghost use Rattle.nichols_braid.specs.Faults.{braid_of};
 ghost use Rattle.nichols_braid.specs.GivenScalars.{given_scalars};
+ghost use Rattle.nichols_braid.specs.Product.{product_of, unact};
+ghost use Rattle.nichols_braid.specs.Products.{leading};
 ghost use Rattle.nichols_field.specs.Field.{IsElement};
 
 use crate::cocycle_law::{cocycle_fault, zero_fault};
@@ -100,6 +104,48 @@ impl Braid {
     {
         let n = usize::from(self.letters);
         self.rack[(usize::from(i) - 1) * n + (usize::from(j) - 1)]
+    }
+
+    /// The letter that the map of i sends to j.
+    pub fn unact(&self, i: u8, j: u8) -> u8
+        requires left { IsLetter self.now i }
+        requires right { IsLetter self.now j }
+        ensures value { result ≡ unact self.now i j }
+        ensures letter { IsLetter self.now result }
+        ensures sent { act self.now i result ≡ j }
+    {
+        for c in 1..self.letters {
+            if self.act(i, c) == j {
+                return c;
+            }
+        }
+        self.letters
+    }
+
+    /// The first letter with the same map as a.
+    pub fn leading(&self, a: u8) -> u8
+        requires { IsLetter self.now a }
+        ensures value { result ≡ leading self.now a }
+        ensures letter { IsLetter self.now result }
+        ensures alike { product_of self.now (result ∷ []) ≡ product_of self.now (a ∷ []) }
+    {
+        for b in 1..a {
+            if self.row(b) == self.row(a) {
+                return b;
+            }
+        }
+        a
+    }
+
+    /// The images of the letters under the map of i, from letter 1 on.
+    pub(crate) fn row(&self, i: u8) -> &[u8]
+        requires { IsLetter self.now i }
+        ensures images { result.now ≡ product_of self.now (i ∷ []) }
+        ensures braid { IsBraid self.now }
+    {
+        let n = usize::from(self.letters);
+        let start = (usize::from(i) - 1) * n;
+        &self.rack[start..start + n]
     }
 
     /// The scalar `q(i, j)`.

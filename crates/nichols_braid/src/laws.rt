@@ -2,6 +2,7 @@
 
 pub mod left;
 pub mod new_words;
+pub mod points;
 pub mod products;
 
 ghost use Rattle.nichols_braid.specs.TableLaws.{BraidsAreAccepted, AcceptedTablesAreBraids, FirstFaultsAreNamed};

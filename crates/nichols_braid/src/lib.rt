@@ -5,15 +5,32 @@ mod braid;
 mod cocycle_law;
 mod faults;
 pub mod laws;
+mod product;
+mod products;
 mod rack_laws;
 mod tables;
+mod transposition;
 
 pub use braid::Braid;
 pub use faults::BraidFault;
+pub use product::Product;
+pub use products::{Products, ProductsFault};
 pub use tables::Scalars;
+
+/// The least number of points whose transpositions are made a braid.
+pub const POINTS_LEAST: u32 = 3;
+
+/// The greatest number of points whose transpositions are made a braid.
+pub const POINTS_MOST: u32 = 7;
 
 /// The greatest degree of an algebra that is made.
 pub const MOST_DEGREES: u32 = 60;
+
+/// The greatest number of products that a degree is made with.
+pub const MOST_PRODUCTS: usize = 5_040;
+
+/// The greatest number of candidates of one product that a degree is made with; a lower limit may be asked for.
+pub const MOST_ROWS: u32 = 65_536;
 
 #[cfg(test)]
 mod tests;

@@ -1,3 +1,8 @@
+mod points;
+
+ghost use Rattle.std.specs.Prelude.{◌≡◌, IfOk};
+ghost use Rattle.nichols_braid.specs.Products.{products};
+
 use super::*;
 use nichols_field::Field;
 use std::alloc::{AllocError, Global};
@@ -252,6 +257,110 @@ fn earlier_faults_come_first(rt: HostRuntime) -> Result<(), Fail> {
     assert_eq!(rt;
         fault(alloc, &[&[1, 2], &[2, 1]], &scalars)?,
         Some(distributive)
+    );
+    Ok(())
+}
+
+/// The products of the words of m letters.
+fn of_degree(alloc: Global, braid: &Braid, m: u32) -> Result<Products, ProductsFault>
+    ensures { IfOk result (λ ps. ps ≡ products braid.now m) }
+{
+    let mut out = Products::first(alloc, braid)?;
+    for _k in 0..m {
+        out = out.next(alloc, braid)?;
+    }
+    Ok(out)
+}
+
+/// The braid of a rack with scalars -1, over 101 elements.
+fn signed(alloc: Global, rack: &[&[i64]]) -> Result<Braid, Fail> {
+    let field = Field::new(101).map_err(|_| "no field")?;
+    let rack = rows(alloc, rack)?;
+    Ok(Braid::new(alloc, field, rack.as_slice(), &Scalars::Constant(-1)).map_err(|_| "refused")?)
+}
+
+/// Three letters that act alike, each by the cycle of 1, 2, 3.
+const CYCLE: [&[i64]; 3] = [&[2, 3, 1], &[2, 3, 1], &[2, 3, 1]];
+
+#[test]
+fn products_stand_in_the_order_of_first_words(rt: HostRuntime) -> Result<(), Fail> {
+    let alloc = rt.alloc();
+    let tables: [(&[&[i64]], u32, &[&[u8]]); 8] = [
+        (&THREE, 0, &[&[1, 2, 3]]),
+        (&THREE, 1, &[&[1, 3, 2], &[3, 2, 1], &[2, 1, 3]]),
+        (&THREE, 2, &[&[1, 2, 3], &[2, 3, 1], &[3, 1, 2]]),
+        (&THREE, 3, &[&[1, 3, 2], &[3, 2, 1], &[2, 1, 3]]),
+        (&TWO, 1, &[&[1, 2]]),
+        (&TWO, 3, &[&[1, 2]]),
+        (&CYCLE, 1, &[&[2, 3, 1]]),
+        (&CYCLE, 2, &[&[3, 1, 2]]),
+    ];
+    for (rack, degree, want) in tables {
+        let braid = signed(alloc, rack)?;
+        let listed = of_degree(alloc, &braid, degree).map_err(|_| "no products")?;
+        assert_eq!(rt; listed.len(), want.len());
+        for (k, images) in want.iter().enumerate() {
+            if k < listed.len() {
+                assert!(rt; listed.at(k).images() == *images);
+                assert_eq!(rt; listed.find(listed.at(k)), Some(k));
+            }
+        }
+    }
+    Ok(())
+}
+
+#[test]
+fn products_are_followed_and_taken_back(rt: HostRuntime) -> Result<(), Fail> {
+    let alloc = rt.alloc();
+    let braid = signed(alloc, &CYCLE)?;
+    let _braid = braid.field();
+    let none = Product::identity(braid.letters());
+    if braid.letters() == 3 {
+        let one = none.times(&braid, 2);
+        let before = none.back(&braid, 2);
+        assert!(rt; one.images() == [2, 3, 1].as_slice());
+        assert!(rt; before.images() == [3, 1, 2].as_slice());
+        assert!(rt; one.times(&braid, 3) == before && one.back(&braid, 1) == none && one != before);
+        assert!(rt; braid.unact(3, 1) == 3 && braid.unact(3, 2) == 1);
+        assert!(rt; braid.leading(1) == 1 && braid.leading(3) == 1);
+    }
+    Ok(())
+}
+
+/// Eight groups of three transpositions; letters of different groups act trivially on one another.
+fn eight_groups(alloc: Global) -> Result<Vec<Vec<i64>>, AllocError> {
+    let mut rack = Vec::new(alloc);
+    for i in 0..24_u8 {
+        let mut row = Vec::new(alloc);
+        for j in 0..24_u8 {
+            let other = (6 - i % 3 - j % 3) % 3;
+            let letter = if i / 3 == j / 3 { i / 3 * 3 + other } else { j };
+            row.push(i64::from(letter) + 1)?;
+        }
+        rack.push(row)?;
+    }
+    Ok(rack)
+}
+
+#[test]
+fn more_products_than_are_listed(rt: HostRuntime) -> Result<(), Fail> {
+    let alloc = rt.alloc();
+    let field = Field::new(101).map_err(|_| "no field")?;
+    let rack = eight_groups(alloc)?;
+    let braid = Braid::new(alloc, field, rack.as_slice(), &Scalars::Constant(-1)).map_err(
+        |_| "refused",
+    )?;
+    let listed = of_degree(alloc, &braid, 3).map_err(|_| "no products")?;
+    let copy = listed.copy(alloc)?;
+    assert_eq!(rt; listed.len(), 1_872);
+    assert_eq!(rt; copy.len(), 1_872);
+    for k in 0..listed.len() {
+        assert_eq!(rt; copy.find(listed.at(k)), Some(k));
+    }
+    assert_eq!(rt; listed.find(&Product::identity(24)), None);
+    assert_eq!(rt;
+        of_degree(alloc, &braid, 4).err(),
+        Some(ProductsFault::Wide)
     );
     Ok(())
 }

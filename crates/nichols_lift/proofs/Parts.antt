@@ -21,7 +21,7 @@ use Rattle.nichols_braid.proofs.Maps.{extended_same_on, extended-sum, plus_times
 use Rattle.nichols_braid.proofs.Degrees.{AllWords, words-append, words-extended}
 use Rattle.nichols_lift.specs.Lengths.{AllAtMost}
 use Rattle.nichols_lift.proofs.Totals.{total, total_zero, value_at-flat_map}
-use Rattle.nichols_braid.proofs.Products.{cross_over}
+use Rattle.nichols_braid.proofs.KeptProducts.{cross_over}
 use Rattle.nichols_lift.proofs.Step.{cross_length}
 use Rattle.nichols_lift.proofs.Factorisation.{part, lifts_factor, extended-flat_map, extended_part, same_flat_maps}
 use Rattle.nichols_lift.proofs.Kernel.{lifts_of_empty}

@@ -13,7 +13,7 @@ use Rattle.nichols_braid.specs.Lift.{exchanged, IsDescending, bubble, lift}
 use Rattle.nichols_braid.specs.Rearrangement.{IsRearrangement}
 use Rattle.nichols_lift.specs.ClosedForm.{ended, ended_scalar, letter_at, closed_form}
 use Rattle.nichols_lift.proofs.Acted.{none_placed}
-use Rattle.nichols_braid.proofs.Products.{cross_over}
+use Rattle.nichols_braid.proofs.KeptProducts.{cross_over}
 use Rattle.nichols_lift.proofs.Step.{cross_length, exchanged_is_permutation, crossed_letters, crossed_scalars}
 use Rattle.nichols_lift.proofs.Bubble.{bubble_descends}
 use Rattle.nichols_braid.proofs.Rearranged.{consecutive, up_to_is_consecutive, rearranged_length}

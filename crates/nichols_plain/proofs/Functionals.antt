@@ -20,7 +20,7 @@ use Rattle.nichols_braid.proofs.Maps.{same_weight_on, everywhere}
 use Rattle.nichols_braid.proofs.Killed.{is_in_kernel_sound, is_in_kernel_complete}
 use Rattle.nichols_rows.proofs.Rows.{AreFunctionals}
 use Rattle.nichols_echelon.specs.Cells.{entry}
-use Rattle.nichols_braid.proofs.Products.{cross_over}
+use Rattle.nichols_braid.proofs.KeptProducts.{cross_over}
 use Rattle.nichols_lift.proofs.Step.{cross_length}
 use Rattle.nichols_lift.proofs.Parts.{symmetrized_words}
 use Rattle.nichols_plain.specs.Columns.{number_of, row_of, image_entry}

@@ -1,6 +1,7 @@
 //! Laws of the products of words, for every braid and every length.
 
 ghost use Rattle.nichols_braid.specs.ProductLaws.{ProductsAreBijections, UnactIsBeforeAct, ProductBeforeALetter, CrossingKeepsProduct, CrossingsKeepProduct, LiftsKeepProduct, DerivativesKeepProduct, ProductsOfDerivatives, KernelSplitsByProduct, KilledSplitsByProduct};
+ghost use Rattle.nichols_braid.specs.ProductListLaws.{FirstWordsRise, LeadingLetterIsFirst, NextProducts, ProductAfterALetter, ProductsAreDistinct, ProductsAreOfWords, RowsByLetters, RowsOfAProduct};
 
 /// The product of a word over the letters is a bijection of the letters.
 #[tactic(auto, using(crate::proofs::ProductLaws::products_are_bijections))]
@@ -59,4 +60,36 @@ pub fn kernel_splits_by_product()
 #[tactic(auto, using(crate::proofs::ProductLaws::killed_splits_by_product))]
 pub fn killed_splits_by_product()
     ensures { KilledSplitsByProduct }
+{}
+
+/// The product after a letter, of the product of a word, is that of the word with the letter behind.
+#[tactic(auto, using(crate::proofs::ProductListLaws::product_after_a_letter))]
+pub fn product_after_a_letter()
+    ensures { ProductAfterALetter }
+{}
+
+/// The leading letter of a letter has the same map, and no letter with that map is before it.
+pub fn leading_letter_is_first()
+    ensures { LeadingLetterIsFirst }
+{}
+
+/// The list of a degree has the products of the words of that length, and no others, each once, in the order of the first
+/// word that has it.
+pub fn products_are_of_words()
+    ensures words { ProductsAreOfWords }
+    ensures once { ProductsAreDistinct }
+    ensures order { FirstWordsRise }
+{}
+
+/// The products of the next degree are those after each letter, of each product in turn, each once.
+#[tactic(auto, using(crate::proofs::ProductListLaws::next_products))]
+pub fn next_products()
+    ensures { NextProducts }
+{}
+
+/// The rows of a product are the least words of the degree before with a letter behind that have it, counted by the words,
+/// and counted by the letters.
+pub fn rows_of_a_product()
+    ensures words { RowsOfAProduct }
+    ensures letters { RowsByLetters }
 {}

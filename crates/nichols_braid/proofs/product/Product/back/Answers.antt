@@ -1,0 +1,65 @@
+use Rattle.std.proofs.Common.{◌≡◌, ℕ, ◌+◌, ◌-◌, ◌<◌, [], ◌∷◌, ◌++◌, length, take, refl, sym, ◌∙◌, ap, arith, subst}
+use Rattle.std.specs.Prelude.{slice_index, slice_set}
+use Rattle.nichols_braid.specs.Braid.{IsLetter}
+use Rattle.nichols_braid.specs.Product.{product_before, IsProduct}
+use Rattle.nichols_braid.proofs.InlineProducts.{padded_start, padded-set, row_size, row_letter, fields_made, field_of_size, rearranges, same_size, before_made, before_more, before_is_rearrangement}
+use Rattle.nichols_tensor.specs.Inline.{IsInline}
+use Rattle.nichols_braid.specs.declared.product.TheConstants.{ROOM}
+use Rattle.nichols_braid.proofs.Onto.{product_before_alike}
+use Rattle.nichols_braid.proofs.product.Product.back.Goals as goal
+
+-- the lists have as many entries as there are letters
+pub loop-j-init : goal.loop-j-init
+loop-j-init c = (
+  padded_start (length c.row-row.result.now) (let size = row_size c.args.braid.now c.args.a c.row-row.result.now c.row-row.ensures.images in omega (arith, size, c.row-row.ensures.braid.most)),
+  λ k less. absurd (omega arith),
+)
+
+pub bounds-own-j : goal.bounds-own-j
+bounds-own-j c = let size = row_size c.args.braid.now c.args.a c.row-row.result.now c.row-row.ensures.images in omega (arith, size, c.loop-j-test.true, ap length c.images-own.ensures.same, c.requires.letters)
+
+letter : (c : goal.After-from) → IsLetter c.args.braid.now (slice_index c.row-row.result.now c.loop-j.j)
+letter c = row_letter c.args.braid.now c.row-row.ensures.braid.rack c.args.a c.requires.letter c.row-row.result.now c.row-row.ensures.images c.loop-j.j c.loop-j-test.true
+
+pub overflow_sub-images : goal.overflow_sub-images
+overflow_sub-images c = let l = letter c in omega (arith, c.from.ensures, l.0)
+
+pub bounds-images-from : goal.bounds-images-from
+bounds-images-from c = let l = letter c in omega (arith, c.from.ensures, l.0, l.1, c.row-row.ensures.braid.most)
+
+pub loop-j-preserved : goal.loop-j-preserved
+loop-j-preserved c =
+    let size = row_size c.args.braid.now c.args.a c.row-row.result.now c.row-row.ensures.images in
+    let l = letter c in (
+      padded-set (length c.row-row.result.now) c.loop-j.images (c.from.result - 1) (slice_index c.images-own.result.now c.loop-j.j) c.loop-j.invariant.0 (omega (arith, c.from.ensures, l.0, l.1, size)),
+      subst
+          (λ (i : ℕ). (k : ℕ) → k < c.loop-j.j + 1 → slice_index (slice_set c.loop-j.images (i - 1) (slice_index c.images-own.result.now c.loop-j.j)) (slice_index c.row-row.result.now k - 1) ≡ slice_index c.images-own.result.now k)
+          (sym c.from.ensures)
+          (before_more c.args.braid.now c.row-row.ensures.braid.rack c.args.a c.requires.letter c.row-row.result.now c.images-own.result.now c.loop-j.images c.row-row.ensures.images c.loop-j.j (slice_index c.images-own.result.now c.loop-j.j)
+          (omega (arith, size, c.loop-j-test.true)) (omega (arith, c.loop-j.invariant.0.whole, c.row-row.ensures.braid.most)) refl c.loop-j.invariant.1),
+    )
+
+made : (c : goal.After-self) → IsInline ROOM IsProduct c.self.inside.letters c.loop-j.images × (take c.self.inside.letters c.loop-j.images ≡ product_before c.args.braid.now c.args.a c.args.self.now)
+made c =
+    let size : length c.row-row.result.now ≡ c.args.braid.now.letters = row_size c.args.braid.now c.args.a c.row-row.result.now c.row-row.ensures.images in
+    fields_made c.args.braid.now c.row-row.ensures.braid c.self.inside.letters c.row-row.result.now c.loop-j.images (product_before c.args.braid.now c.args.a c.args.self.now)
+    (field_of_size c.self.inside.letters c.args.braid.now.letters c.self.inside.images c.args.self.now c.self.invariant c.self.view_is c.requires.letters) size c.loop-j.invariant.0
+    (before_made c.args.braid.now c.row-row.ensures.braid.rack c.args.a c.requires.letter c.row-row.result.now c.images-own.result.now c.loop-j.images c.row-row.ensures.images (omega (arith, c.loop-j.invariant.0.whole, c.row-row.ensures.braid.most))
+    (λ k less. c.loop-j.invariant.1 k (omega (arith, size, less, c.loop-j-test.false)))
+    ∙ ap (product_before c.args.braid.now c.args.a) c.images-own.ensures.same)
+    (before_is_rearrangement c.args.braid.now c.row-row.ensures.braid.rack c.args.a c.requires.letter c.args.self.now (rearranges c.args.braid.now.letters c.args.self.now c.images-own.ensures.product c.requires.letters))
+
+pub invariant_of-result : goal.invariant_of-result
+invariant_of-result c = (made c).0
+
+pub returns-clause-value : goal.returns-clause-value
+returns-clause-value c = (made c).1
+
+pub returns-clause-word : goal.returns-clause-word
+returns-clause-word c = λ w is.
+    (made c).1 ∙ ap (product_before c.args.braid.now c.args.a) is ∙ sym (product_before_alike c.args.braid.now c.row-row.ensures.braid.rack c.args.a c.requires.letter w (w ++ c.args.a ∷ []) (λ j l. refl))
+
+pub returns-clause-size : goal.returns-clause-size
+returns-clause-size c =
+    ap length (made c).1
+    ∙ same_size c.args.braid.now.letters (product_before c.args.braid.now c.args.a c.args.self.now) (before_is_rearrangement c.args.braid.now c.row-row.ensures.braid.rack c.args.a c.requires.letter c.args.self.now (rearranges c.args.braid.now.letters c.args.self.now c.images-own.ensures.product c.requires.letters))
