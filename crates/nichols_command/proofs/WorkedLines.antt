@@ -1,0 +1,92 @@
+-- Command lines that are written out.
+use Rattle.std.proofs.Common.{◌≡◌, true, false, [], ◌∷◌, refl, codes, Some, None}
+use Rattle.clap.proofs.OnLiterals.{clap_on_literals}
+use Rattle.nichols_command.specs.Numbers.{digits_value}
+use Rattle.nichols_command.specs.Texts.{texts_of}
+use Rattle.nichols_command.specs.Command.{command_of}
+use Rattle.nichols_command.specs.declared.command.Options.{Options}
+use Rattle.nichols_command.specs.declared.command.Command.TheVariants.{OnDocument, Points}
+use Rattle.nichols_command.specs.declared.command.Task.TheVariants.{Algebra, Reduce, Symmetrize}
+
+abbrev defaults : Options
+defaults = record { degree_limit = 12; rows_limit = 1024; workers = 4; window = 2; brief = false }
+
+no_option : command_of (codes "algebra" ∷ []) ≡ Some (OnDocument (Algebra defaults))
+unfolding clap_on_literals texts_of command_of
+no_option = refl
+
+joined_value : command_of (codes "algebra" ∷ codes "--degree=04" ∷ []) ≡ Some (OnDocument (Algebra (record defaults { degree_limit = 4 })))
+unfolding clap_on_literals texts_of command_of digits_value
+joined_value = refl
+
+any_order : command_of (codes "algebra" ∷ codes "--brief" ∷ codes "--window=8" ∷ codes "--rows" ∷ codes "9" ∷ []) ≡ Some (OnDocument (Algebra (record defaults { window = 8; rows_limit = 9; brief = true })))
+unfolding clap_on_literals texts_of command_of digits_value
+any_order = refl
+
+unused_option : command_of (codes "symmetrize" ∷ codes "--workers" ∷ codes "16" ∷ []) ≡ Some (OnDocument Symmetrize)
+unfolding clap_on_literals texts_of command_of digits_value
+unused_option = refl
+
+no_word : command_of [] ≡ None
+unfolding clap_on_literals texts_of command_of
+no_word = refl
+
+help : command_of (codes "--help" ∷ []) ≡ None
+unfolding clap_on_literals texts_of command_of
+help = refl
+
+unknown_option : command_of (codes "algebra" ∷ codes "--colour" ∷ []) ≡ None
+unfolding clap_on_literals texts_of command_of
+unknown_option = refl
+
+option_twice : command_of (codes "algebra" ∷ codes "--degree" ∷ codes "4" ∷ codes "--degree=4" ∷ []) ≡ None
+unfolding clap_on_literals texts_of command_of
+option_twice = refl
+
+a_task : command_of (codes "reduce" ∷ []) ≡ Some (OnDocument (Reduce defaults))
+unfolding clap_on_literals texts_of command_of
+a_task = refl
+
+some_points : command_of (codes "points" ∷ codes "4" ∷ []) ≡ Some (Points 4 defaults)
+unfolding clap_on_literals texts_of command_of digits_value
+some_points = refl
+
+too_many_points : command_of (codes "points" ∷ codes "8" ∷ []) ≡ None
+unfolding clap_on_literals texts_of command_of digits_value
+too_many_points = refl
+
+points_alone : command_of (codes "points" ∷ []) ≡ None
+unfolding clap_on_literals texts_of command_of
+points_alone = refl
+
+unwanted_word : command_of (codes "algebra" ∷ codes "3" ∷ []) ≡ None
+unfolding clap_on_literals texts_of command_of
+unwanted_word = refl
+
+sign : command_of (codes "algebra" ∷ codes "--degree" ∷ codes "+4" ∷ []) ≡ None
+unfolding clap_on_literals texts_of command_of
+sign = refl
+
+blank : command_of (codes "algebra" ∷ codes "--degree" ∷ codes " 4" ∷ []) ≡ None
+unfolding clap_on_literals texts_of command_of
+blank = refl
+
+other_base : command_of (codes "algebra" ∷ codes "--degree" ∷ codes "0x4" ∷ []) ≡ None
+unfolding clap_on_literals texts_of command_of
+other_base = refl
+
+ten_digits : command_of (codes "algebra" ∷ codes "--degree" ∷ codes "0000000004" ∷ []) ≡ None
+unfolding clap_on_literals texts_of command_of
+ten_digits = refl
+
+empty_value : command_of (codes "algebra" ∷ codes "--degree=" ∷ []) ≡ None
+unfolding clap_on_literals texts_of command_of
+empty_value = refl
+
+degree_too_great : command_of (codes "algebra" ∷ codes "--degree" ∷ codes "61" ∷ []) ≡ None
+unfolding clap_on_literals texts_of command_of digits_value
+degree_too_great = refl
+
+no_rows : command_of (codes "algebra" ∷ codes "--rows" ∷ codes "0" ∷ []) ≡ None
+unfolding clap_on_literals texts_of command_of digits_value
+no_rows = refl
