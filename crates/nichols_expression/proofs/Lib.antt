@@ -1,0 +1,23 @@
+pub mod Runs
+pub mod Sound
+pub mod Fronts
+pub mod Complete
+pub mod Whole
+pub mod Coefficients
+pub mod Seen
+pub mod Twins
+pub mod Ends
+pub mod ReadingLaws
+pub mod FaultLaws
+pub mod PrintedLaws
+pub mod Numbers
+pub mod Scanning
+pub mod Stops
+pub mod LetterTurns
+pub mod WordSteps
+pub mod TermSteps
+pub mod TermTurns
+pub mod Entry
+pub mod Values
+mod Examples
+pub mod OnLiterals

@@ -1,0 +1,10 @@
+-- what public contracts cite
+pub mod Bytes
+pub mod Grammar
+pub mod Reader
+pub mod Printed
+pub mod Answers
+pub mod Faults
+pub mod Laws
+-- what private functions use
+pub mod Steps

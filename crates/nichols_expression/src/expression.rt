@@ -1,0 +1,87 @@
+//! Whole expressions.
+
+ghost use Rattle.std.specs.Prelude.{◌≡◌, ◌≤◌, ◌&&◌, drop, length, Ok, IfOk, IfErr};
+ghost use Rattle.std.specs.Result.{MatchResult};
+ghost use Rattle.nichols_tensor.specs.Combination.{AllElements};
+ghost use Rattle.nichols_tensor.specs.WordOrder.{IsOrdered};
+ghost use Rattle.nichols_tensor.specs.Words.{IsOver};
+ghost use Rattle.nichols_tensor.specs.declared.TheConstants.{LETTER_LIMIT};
+ghost use Rattle.nichols_expression.specs.declared.TheConstants.{TERM_LIMIT};
+ghost use Rattle.nichols_expression.specs.Reader.{expression_of, is_empty, read_terms};
+ghost use Rattle.nichols_expression.specs.Bytes.{zero_digit};
+ghost use Rattle.nichols_expression.specs.Answers.{IsFaultAnswer};
+ghost use Rattle.nichols_expression.specs.Faults.{IsPlacedIn};
+ghost use Rattle.nichols_expression.specs.Steps.{IsFaultOf, starts_with};
+
+use crate::faults::{Cause, ExpressionFault};
+use crate::scan::{behind_spaces, has_byte};
+use crate::signs::{Sign, sign_of};
+use crate::stop::Stop;
+use crate::terms::read_terms;
+use nichols_braid::Braid;
+use nichols_field::Field;
+use nichols_words::{Comb, Term};
+use std::alloc::Global;
+
+/// The value of a text as an expression over the letters of a braid, with coefficients in its field.
+///
+/// An expression is `0`, or terms between `+` and `-`, with a sign before the first or none; a term is a word, or a number
+/// and `*` before one; a word is `e`, which is the empty one, or letters from 1 to n between dots. Spaces stand anywhere but
+/// inside of words and numbers. A number has 1 to 9 digits and is taken modulo p, a word has at most 60 letters, an expression
+/// at most 1,000 terms; terms of one word are added.
+///
+/// `At` is the first fault from the left; its cause is never `Surplus`, which is one of documents. The time is that of the
+/// bytes, and of sorting the terms.
+#[tactic(auto, using(crate::proofs::Values::read_elements, crate::proofs::Values::over_read, crate::proofs::Values::read_few, crate::proofs::Values::value_read, crate::proofs::Values::fault_read, crate::proofs::FaultLaws::placed_read))]
+pub fn read_expression(alloc: Global, braid: &Braid, text: &str) -> Result<Comb, ExpressionFault>
+    ensures value { MatchResult result
+        (λ c. expression_of braid.now text.now ≡ Ok c)
+        (IsFaultAnswer (expression_of braid.now text.now)) }
+    ensures places { IfErr result (IsPlacedIn text.now) }
+    ensures shape { IfOk result IsOrdered }
+    ensures letters { IfOk result (IsOver braid.now.letters) }
+    ensures elements { IfOk result (AllElements braid.now.field) }
+    ensures terms { IfOk result (λ c. length c ≤ TERM_LIMIT) }
+{
+    let field = braid.field();
+    let mut terms = terms_of(alloc, text.as_bytes(), field, braid.letters())?;
+    let sum = Comb::sum_of(alloc, field, terms.as_mut_slice())?;
+    Ok(sum)
+}
+
+/// The terms of an expression as they stand.
+#[tactic(auto, using(crate::proofs::Entry::entry_early, crate::proofs::Entry::entry_zero, crate::proofs::Entry::entry_signed, crate::proofs::Entry::entry_unsigned))]
+fn terms_of(
+    alloc: Global,
+    text: &[u8],
+    field: Field,
+    letters: u8,
+) -> Result<Vec<Term>, ExpressionFault>
+    requires { letters ≤ LETTER_LIMIT }
+    ensures { MatchResult result
+        (λ terms. read_terms field letters text.now ≡ Ok terms.items)
+        (IsFaultOf text.now (read_terms field letters text.now)) }
+{
+    let start = behind_spaces(text, 0);
+    if start == text.len() {
+        return Err(Stop::behind(text, start, Cause::Early).into());
+    }
+    let behind = behind_spaces(text, start + 1);
+    if is_zero_alone(text, start, behind) {
+        return Ok(Vec::new(alloc));
+    }
+    match sign_of(text[start]) {
+        Some(sign) => read_terms(alloc, text, behind, sign, field, letters),
+        None => read_terms(alloc, text, start, Sign::Positive, field, letters),
+    }
+}
+
+/// Whether the digit 0 stands at a place, and nothing from another place on.
+#[tactic(auto, using(crate::proofs::Entry::nothing_left, crate::proofs::Entry::something_left))]
+fn is_zero_alone(text: &[u8], start: usize, behind: usize) -> bool
+    requires start { start ≤ length text.now }
+    requires behind { behind ≤ length text.now }
+    ensures { result ≡ (starts_with zero_digit (drop start text.now) && is_empty (drop behind text.now)) }
+{
+    has_byte(text, start, b'0') && behind == text.len()
+}

@@ -1,0 +1,24 @@
+//! Expressions: combinations of words, written as texts.
+#![tactic(auto)]
+
+mod digits;
+mod expression;
+mod faults;
+pub mod laws;
+mod scan;
+mod signs;
+mod stop;
+mod terms;
+mod words;
+
+pub use expression::read_expression;
+pub use faults::{Cause, ExpressionFault};
+
+/// The most digits of a number before `*`.
+pub const NUMBER_LIMIT: usize = 9;
+
+/// The most terms of an expression.
+pub const TERM_LIMIT: usize = 1000;
+
+#[cfg(test)]
+mod tests;
