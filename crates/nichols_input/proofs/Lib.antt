@@ -1,3 +1,8 @@
 pub mod Found
+pub mod Values
+pub mod ReadKinds
+pub mod Searches
+pub mod ValueLaws
+pub mod DueLaws
 pub mod OnLiterals
-pub mod WorkedDocuments
+mod WorkedDocuments

@@ -1,3 +1,5 @@
+pub mod Keys
+pub mod Shapes
 pub mod Refusal
 pub mod Document
-pub mod Shapes
+pub mod Laws

@@ -1,20 +1,38 @@
--- Why a document has no braid.
-use Rattle.std.specs.Prelude.{Option, None, Some}
+-- Why a document is refused.
+use Rattle.std.specs.Prelude.{ℕ, ℤ, List, Option, None, Some}
 use Rattle.std.specs.Option.{option_map}
+use Rattle.nichols_field.specs.declared.FieldFault.TheVariants.{OutsideList}
 use Rattle.nichols_braid.specs.Faults.{TableFault}
 use Rattle.nichols_braid.specs.FaultAnswers.{table_fault_in}
+use Rattle.nichols_expression.specs.declared.faults.Cause.{Cause}
+use Rattle.nichols_input.specs.declared.key.Key.{Key}
 use Rattle.nichols_input.specs.declared.faults.InputFault.{InputFault}
-use Rattle.nichols_input.specs.declared.faults.InputFault.TheVariants.{Braid, Unbuilt, Memory}
+use Rattle.nichols_input.specs.declared.faults.InputFault.TheVariants.{NotToml, MissingKey, UnknownKey, WrongKind, Modulus, Braid, Expression, Memory}
 
--- what is wrong with a document
+-- what is wrong with a document, in the order in which it is looked for
 pub data Refusal : Type 0 where
-  -- its rows and scalars aren't a braid
+  -- its bytes aren't UTF-8 or aren't TOML
+  not_toml : Refusal
+  -- a key isn't there
+  missing_key : Key → Refusal
+  -- a key is there that no document has
+  unknown_key : List ℕ → Refusal
+  -- a value is of a wrong kind
+  wrong_kind : Key → Refusal
+  -- the modulus is no field's
+  modulus : ℤ → Refusal
+  -- rows and scalars aren't a braid
   tables : TableFault → Refusal
-  -- another cause
-  unbuilt : Refusal
+  -- a text, by its number from 1, is no expression, by the place of its first fault from 1
+  expression : (number place : ℕ) → Cause → Refusal
 
 -- the refusal that a fault of the reader tells; want of memory tells none
 abbrev pub refusal_of : InputFault → Option Refusal
+refusal_of NotToml = Some not_toml
+refusal_of (MissingKey key) = Some (missing_key key)
+refusal_of (UnknownKey text) = Some (unknown_key text)
+refusal_of (WrongKind key) = Some (wrong_kind key)
+refusal_of (Modulus (OutsideList p)) = Some (modulus p)
 refusal_of (Braid fault) = option_map tables (table_fault_in fault)
-refusal_of Unbuilt = Some unbuilt
+refusal_of (Expression number place cause) = Some (expression number place cause)
 refusal_of Memory = None

@@ -1,28 +1,68 @@
-//! The keys of a document.
+//! What stands at the keys of a document.
 
-ghost use Rattle.std.specs.Prelude.{◌≡◌, IfOk, map, option_copied, option_map};
+ghost use Rattle.std.specs.Prelude.{◌≡◌, None, Some, IfOk, IfErr, IfSome, MatchResult, map, option_and_then, option_copied, option_map};
 ghost use Rattle.nichols_braid.specs.GivenScalars.{given_scalars};
-ghost use Rattle.nichols_input.specs.Document.{is_known, unknown_key, value_at};
+ghost use Rattle.nichols_input.specs.Document.{at_key, keys_refusal, missing_in, texts_of, unknown_in};
+ghost use Rattle.nichols_input.specs.Keys.{is_known};
+ghost use Rattle.nichols_input.specs.Refusal.{refusal_of};
 ghost use Rattle.nichols_input.specs.Shapes.{as_rows, as_scalars};
-ghost use Rattle.toml.specs.Data.{as_integer, get_member};
+ghost use Rattle.nichols_input.specs.declared.faults.InputFault.TheVariants.{Memory};
+ghost use Rattle.toml.specs.Data.{as_integer};
 ghost use Rattle.toml.specs.View.{table_view, view};
 
-use crate::shapes::{as_rows, as_scalars};
+use crate::faults::InputFault;
+use crate::key::Key;
+use crate::key_text::KeyText;
+use crate::shapes::{as_rows, as_scalars, as_texts};
 use nichols_braid::Scalars;
 use std::alloc::{AllocError, Global};
 use toml::{Table, Value};
+
+/// Whether each key that a document has is there, and no other.
+#[tactic(auto, unfolding(crate::specs::Document::keys_refusal))]
+pub(crate) fn check_keys(alloc: Global, table: &Table) -> Result<(), InputFault>
+    ensures keys { MatchResult result
+        (λ _. keys_refusal (table_view table.now) ≡ None)
+        (λ fault. IfSome (refusal_of fault) (λ refusal. keys_refusal (table_view table.now) ≡ Some refusal)) }
+    ensures memory { IfErr result (λ fault. refusal_of fault ≡ None → fault ≡ Memory) }
+{
+    if let Some(key) = missing_key(table) {
+        return Err(InputFault::MissingKey(key));
+    }
+    if let Some(key) = unknown_key(table) {
+        return Err(InputFault::UnknownKey(KeyText::new(alloc, key)?));
+    }
+    Ok(())
+}
+
+/// The first key that each document has and this one hasn't.
+#[tactic(auto, unfolding(crate::specs::Document::missing_in))]
+fn missing_key(table: &Table) -> Option<Key>
+    ensures { result ≡ missing_in (table_view table.now) }
+{
+    if find(table, Key::Modulus).is_none() {
+        return Some(Key::Modulus);
+    }
+    if find(table, Key::Rack).is_none() {
+        return Some(Key::Rack);
+    }
+    if find(table, Key::Cocycle).is_none() {
+        return Some(Key::Cocycle);
+    }
+    None
+}
 
 /// Whether a key is one of a document's.
 fn is_known(key: &str) -> bool
     ensures { result ≡ is_known key.now }
 {
-    key == "modulus" || key == "rack" || key == "cocycle"
+    key == "modulus" || key == "rack" || key == "cocycle" || key == "expressions"
 }
 
 /// The least key that isn't one of a document's.
-#[tactic(auto, unfolding(crate::specs::Document::unknown_key))]
-pub(crate) fn unknown_key(table: &Table) -> Option<&str>
-    ensures { option_copied result ≡ unknown_key (table_view table.now) }
+#[tactic(auto, unfolding(crate::specs::Document::unknown_in))]
+fn unknown_key(table: &Table) -> Option<&str>
+    ensures { option_copied result ≡ unknown_in (table_view table.now) }
 {
     for (key, _value) in table.iter() {
         if !is_known(key.as_str()) {
@@ -33,15 +73,15 @@ pub(crate) fn unknown_key(table: &Table) -> Option<&str>
 }
 
 /// The value at a key.
-fn find<'a>(table: &'a Table, key: &str) -> Option<&'a Value>
-    ensures { option_map (λ v. view v.now) result ≡ get_member key.now (table_view table.now) }
+fn find(table: &Table, key: Key) -> Option<&Value>
+    ensures { option_map (λ v. view v.now) result ≡ at_key key (table_view table.now) }
 {
-    table.get(key)
+    table.get(key.name())
 }
 
 /// The integer at a key.
-pub(crate) fn integer_at(table: &Table, key: &str) -> Option<i64>
-    ensures { result ≡ value_at as_integer key.now (table_view table.now) }
+pub(crate) fn integer_at(table: &Table, key: Key) -> Option<i64>
+    ensures { result ≡ option_and_then as_integer (at_key key (table_view table.now)) }
 {
     match find(table, key) {
         Some(value) => value.as_integer(),
@@ -53,9 +93,9 @@ pub(crate) fn integer_at(table: &Table, key: &str) -> Option<i64>
 pub(crate) fn rows_at(
     alloc: Global,
     table: &Table,
-    key: &str,
+    key: Key,
 ) -> Result<Option<Vec<Vec<i64>>>, AllocError>
-    ensures { IfOk result (λ r. option_map (λ rows. map (λ row. row.items) rows.items) r ≡ value_at as_rows key.now (table_view table.now)) }
+    ensures { IfOk result (λ r. option_map (λ rows. map (λ row. row.items) rows.items) r ≡ option_and_then as_rows (at_key key (table_view table.now))) }
 {
     match find(table, key) {
         Some(value) => as_rows(alloc, value),
@@ -67,12 +107,26 @@ pub(crate) fn rows_at(
 pub(crate) fn scalars_at(
     alloc: Global,
     table: &Table,
-    key: &str,
+    key: Key,
 ) -> Result<Option<Scalars>, AllocError>
-    ensures { IfOk result (λ r. option_map given_scalars r ≡ value_at as_scalars key.now (table_view table.now)) }
+    ensures { IfOk result (λ r. option_map given_scalars r ≡ option_and_then as_scalars (at_key key (table_view table.now))) }
 {
     match find(table, key) {
         Some(value) => as_scalars(alloc, value),
         None => Ok(None),
+    }
+}
+
+/// The texts at a key, and none where it isn't there.
+pub(crate) fn texts_at(
+    alloc: Global,
+    table: &Table,
+    key: Key,
+) -> Result<Option<Vec<&str>>, AllocError>
+    ensures { IfOk result (λ r. option_map (λ texts. map (λ text. text.now) texts.items) r ≡ texts_of (at_key key (table_view table.now))) }
+{
+    match find(table, key) {
+        Some(value) => as_texts(alloc, value),
+        None => Ok(Some(Vec::new(alloc))),
     }
 }

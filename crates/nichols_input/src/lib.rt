@@ -1,13 +1,23 @@
-//! Documents and the braids that they describe.
+//! Documents: a braid, and expressions over its letters.
 #![tactic(auto)]
 
 mod document;
+mod expressions;
 mod faults;
+mod key;
+mod key_text;
 mod keys;
+pub mod laws;
 mod shapes;
 
-pub use document::read_braid;
+pub use document::{Document, read_document};
 pub use faults::InputFault;
+pub use key::Key;
+pub use key_text::KeyText;
+pub use nichols_expression::{Cause, ExpressionFault, read_expression};
 
 #[cfg(test)]
 mod tests;
+
+/// The most expressions of a document.
+pub const EXPRESSION_LIMIT: usize = 1000;

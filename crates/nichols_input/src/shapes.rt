@@ -2,7 +2,7 @@
 
 ghost use Rattle.std.specs.Prelude.{◌≡◌, IfOk, map, option_map};
 ghost use Rattle.nichols_braid.specs.GivenScalars.{given_scalars};
-ghost use Rattle.nichols_input.specs.Shapes.{as_integers, as_rows, as_scalars};
+ghost use Rattle.nichols_input.specs.Shapes.{as_integers, as_rows, as_scalars, as_texts};
 ghost use Rattle.toml.specs.View.{view};
 
 use nichols_braid::Scalars;
@@ -54,4 +54,21 @@ pub(crate) fn as_scalars(alloc: Global, value: &Value) -> Result<Option<Scalars>
         Some(rows) => Ok(Some(Scalars::Table(rows))),
         None => Ok(None),
     }
+}
+
+/// An array of strings.
+pub(crate) fn as_texts(alloc: Global, value: &Value) -> Result<Option<Vec<&str>>, AllocError>
+    ensures { IfOk result (λ r. option_map (λ texts. map (λ text. text.now) texts.items) r ≡ as_texts (view value.now)) }
+{
+    let Some(items) = value.as_array() else {
+        return Ok(None);
+    };
+    let mut out = Vec::new(alloc);
+    for item in items {
+        match item.as_str() {
+            Some(text) => out.push(text)?,
+            None => return Ok(None),
+        }
+    }
+    Ok(Some(out))
 }

@@ -1,5 +1,8 @@
+use Rattle.std.proofs.Common.{◌∙◌, ap}
 use Rattle.toml.proofs.Views.{table_get}
+use Rattle.toml.specs.Data.{get_member}
+use Rattle.toml.specs.View.{table_view}
 use Rattle.nichols_input.proofs.keys.find.Goals as goal
 
 pub returns : goal.returns
-returns c = table_get c.get.result c.args.key.now c.args.table.now.entries c.get.ensures.value
+returns c = table_get c.get.result c.name.result.now c.args.table.now.entries c.get.ensures.value ∙ ap (λ text. get_member text (table_view c.args.table.now)) c.name.ensures

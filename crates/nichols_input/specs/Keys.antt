@@ -1,0 +1,25 @@
+-- The keys of a document.
+use Rattle.std.specs.Prelude.{ℕ, Bool, List, [], ◌∷◌, codes, map}
+use Rattle.std.specs.List.{list_any}
+use Rattle.std.specs.Str.{bytes_eq}
+use Rattle.nichols_input.specs.declared.key.Key.{Key}
+use Rattle.nichols_input.specs.declared.key.Key.TheVariants.{Modulus, Rack, Cocycle, Expressions}
+
+-- how a key is written
+abbrev pub key_name : Key → List ℕ
+key_name Modulus = codes "modulus"
+key_name Rack = codes "rack"
+key_name Cocycle = codes "cocycle"
+key_name Expressions = codes "expressions"
+
+-- the keys that each document has
+abbrev pub needed_keys : List Key
+needed_keys = Modulus ∷ Rack ∷ Cocycle ∷ []
+
+-- the keys that a document may have
+abbrev pub known_keys : List Key
+known_keys = Modulus ∷ Rack ∷ Cocycle ∷ Expressions ∷ []
+
+-- whether a text is one of them
+abbrev pub is_known : List ℕ → Bool
+is_known text = list_any (bytes_eq text) (map key_name known_keys)

@@ -1,0 +1,10 @@
+//! What holds of documents, whatever their bytes.
+
+ghost use Rattle.nichols_input.specs.Laws.{DocumentIsDue};
+
+/// Each document has exactly one answer: it is read with the braid and the values that stand in it, or refused for the first
+/// cause, in the order of `InputFault`, that holds of it.
+#[tactic(auto, using(crate::proofs::DueLaws::document_is_due))]
+pub fn document_is_due()
+    ensures { DocumentIsDue }
+{}
