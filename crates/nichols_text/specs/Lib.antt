@@ -1,4 +1,5 @@
 pub mod Words
 pub mod Pieces
+pub mod Expressions
 pub mod Lines
 pub mod Refusals

@@ -7,10 +7,6 @@ usage_text = codes "usage: nichols algebra or reduce or symmetrize or points K [
 unfoldable pub read_fault_text : List ℕ
 read_fault_text = codes "read fault\n"
 
--- what is said of a document that isn't built into a braid
-unfoldable pub not_built_text : List ℕ
-not_built_text = codes "not built\n"
-
 -- `memory last <m>` with the last degree whose piece was taken, or `memory last none`
 unfoldable pub memory_text : Option ℕ → List ℕ
 memory_text None = codes "memory last none\n"

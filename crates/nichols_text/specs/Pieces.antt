@@ -1,18 +1,23 @@
 -- The pieces of a report: its header, a degree, its end.
-use Rattle.std.specs.Prelude.{ℕ, Bool, List, ◌++◌, codes, decimal, length, if◌then◌else◌}
+use Rattle.std.specs.Prelude.{⊤, ℕ, ◌≤◌, ◌-◌, Bool, List, [], ◌++◌, codes, decimal, length, Option, None, Some, if◌then◌else◌}
 use Rattle.std.specs.List.{flat_map}
 use Rattle.nichols_field.specs.Field.{modulus_of}
 use Rattle.nichols_braid.specs.Braid.{BraidValue}
 use Rattle.nichols_tensor.specs.Relation.{PlainRelation}
-use Rattle.nichols_text.specs.Words.{word_text, relation_line}
+use Rattle.nichols_expression.specs.Printed.{word_text}
+use Rattle.nichols_text.specs.Words.{relation_line}
 use Rattle.nichols_text.specs.declared.end.EndLine.{EndLine}
-use Rattle.nichols_text.specs.declared.end.EndLine.TheVariants.{Closed, DegreeLimit}
+use Rattle.nichols_text.specs.declared.end.EndLine.TheVariants.{Closed, DegreeLimit, Wide, Rows}
 
 -- `nichols p <p> letters <n> degree <degree limit> rows <rows limit>`
 unfoldable pub header_piece : BraidValue → ℕ → ℕ → List ℕ
 header_piece braid degree_limit rows_limit =
     codes "nichols p " ++ decimal (modulus_of braid.field) ++ codes " letters " ++ decimal braid.letters
     ++ codes " degree " ++ decimal degree_limit ++ codes " rows " ++ decimal rows_limit ++ codes "\n"
+
+-- `nichols symmetrize p <p> letters <n>`
+unfoldable pub symmetrize_piece : BraidValue → List ℕ
+symmetrize_piece braid = codes "nichols symmetrize p " ++ decimal (modulus_of braid.field) ++ codes " letters " ++ decimal braid.letters ++ codes "\n"
 
 -- `degree <m> dimension <d>`
 unfoldable pub dimension_line : ℕ → ℕ → List ℕ
@@ -27,15 +32,35 @@ unfoldable pub degree_piece : ℕ → List (List ℕ) → List PlainRelation →
 degree_piece m basis relations brief =
     if brief then dimension_line m (length basis) else dimension_line m (length basis) ++ basis_line basis ++ flat_map relation_line relations
 
--- `closed top <m> dimension <sum>`, or `stopped degree limit last <m>`
+-- `closed top <m> dimension <sum>`, or `stopped ..` with the cause and the last finished degree
 unfoldable pub end_line : EndLine → List ℕ
 end_line (Closed top dimension) = codes "closed top " ++ decimal top ++ codes " dimension " ++ decimal dimension ++ codes "\n"
 end_line (DegreeLimit last) = codes "stopped degree limit last " ++ decimal last ++ codes "\n"
+end_line (Wide degree) = codes "stopped wide degree " ++ decimal degree ++ codes " last " ++ decimal (degree - 1) ++ codes "\n"
+end_line (Rows degree product count) =
+    codes "stopped rows degree " ++ decimal degree ++ codes " product " ++ decimal product ++ codes " count " ++ decimal count
+    ++ codes " last " ++ decimal (degree - 1) ++ codes "\n"
+
+-- degree 0 is always finished, so the degree that wasn't is a later one
+abbrev pub StopsLater : EndLine → Type 0
+StopsLater (Wide degree) = 1 ≤ degree
+StopsLater (Rows degree product count) = 1 ≤ degree
+StopsLater _ = ⊤
 
 -- `hilbert`, with each dimension after a space
 unfoldable pub hilbert_line : List ℕ → List ℕ
 hilbert_line dimensions = codes "hilbert" ++ flat_map (λ d. codes " " ++ decimal d) dimensions ++ codes "\n"
 
--- the end line and the Hilbert line
-unfoldable pub end_piece : EndLine → List ℕ → List ℕ
-end_piece line dimensions = end_line line ++ hilbert_line dimensions
+-- `factors`, with each factor after a space, or `factors none`
+unfoldable pub factors_line : Option (List ℕ) → List ℕ
+factors_line None = codes "factors none\n"
+factors_line (Some factors) = codes "factors" ++ flat_map (λ k. codes " " ++ decimal k) factors ++ codes "\n"
+
+-- the factors line of a closed algebra; another has none
+abbrev pub closing_line : EndLine → Option (List ℕ) → List ℕ
+closing_line (Closed top dimension) factors = factors_line factors
+closing_line _ factors = []
+
+-- the end line, the Hilbert line and, where the algebra is closed, the factors line
+unfoldable pub end_piece : EndLine → List ℕ → Option (List ℕ) → List ℕ
+end_piece line dimensions factors = end_line line ++ hilbert_line dimensions ++ closing_line line factors

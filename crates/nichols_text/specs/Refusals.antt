@@ -1,7 +1,48 @@
 -- The lines of refusals.
-use Rattle.std.specs.Prelude.{ℕ, ℤ, List, ◌++◌, codes, decimal}
+use Rattle.nichols_expression.specs.declared.faults.Cause.{Cause}
+use Rattle.nichols_expression.specs.declared.faults.Cause.TheVariants.{Early, Byte, Letter, LongNumber, LongWord, Terms, Surplus}
+use Rattle.nichols_input.specs.Keys.{key_name}
+use Rattle.nichols_input.specs.Refusal.{Refusal as DocumentRefusal, refusal_of, not_toml, missing_key, unknown_key, wrong_kind, modulus, tables, expression}
+use Rattle.nichols_input.specs.declared.key.Key.{Key}
+use Rattle.nichols_text.specs.declared.refusal.Refusal.{Refusal}
+use Rattle.nichols_text.specs.declared.refusal.Refusal.TheVariants.{TooLong, Input, LongExpression}
+use Rattle.std.specs.Prelude.{ℕ, ℤ, ◌&&◌, List, ◌++◌, codes, decimal, map, take, nat_le, Option, Some, option_map, if◌then◌else◌}
 use Rattle.std.specs.Fmt.{signed_decimal}
 use Rattle.nichols_braid.specs.Faults.{TableFault, letters, rack_shape, rack_entry, not_bijective, not_distributive, cocycle_shape, cocycle_zero, not_cocycle}
+
+-- ---- the document
+
+unfoldable pub too_long_text : List ℕ
+too_long_text = codes "refused: document longer than 1048576 bytes\n"
+
+unfoldable pub not_toml_text : List ℕ
+not_toml_text = codes "refused: not TOML\n"
+
+-- `refused: missing key <key>`
+unfoldable pub missing_key_text : Key → List ℕ
+missing_key_text key = codes "refused: missing key " ++ key_name key ++ codes "\n"
+
+-- a byte that can be seen, from `!` to `~`, or else `?`
+abbrev pub printed_byte : ℕ → ℕ
+printed_byte byte = if nat_le 33 byte && nat_le byte 126 then byte else 63
+
+-- the first 60 bytes of a key, as they are printed
+unfoldable pub printed_key : List ℕ → List ℕ
+printed_key text = map printed_byte (take 60 text)
+
+-- `refused: unknown key <text>`
+unfoldable pub unknown_key_text : List ℕ → List ℕ
+unknown_key_text text = codes "refused: unknown key " ++ printed_key text ++ codes "\n"
+
+-- `refused: wrong kind at key <key>`
+unfoldable pub wrong_kind_text : Key → List ℕ
+wrong_kind_text key = codes "refused: wrong kind at key " ++ key_name key ++ codes "\n"
+
+-- `refused: modulus <p> not in the list`
+unfoldable pub modulus_text : ℤ → List ℕ
+modulus_text p = codes "refused: modulus " ++ signed_decimal p ++ codes " not in the list\n"
+
+-- ---- rows and scalars
 
 -- `refused: <n> letters outside 1 to 24`
 unfoldable pub letters_text : ℕ → List ℕ
@@ -40,13 +81,51 @@ cocycle_zero_text i j = codes "refused: cocycle entry " ++ decimal i ++ codes " 
 unfoldable pub not_cocycle_text : ℕ → ℕ → ℕ → ℕ → ℕ → List ℕ
 not_cocycle_text i j k left right = codes "refused: not a cocycle at " ++ sides_text i j k left right
 
--- the line for a fault of rows and scalars
-abbrev pub refusal_text : TableFault → List ℕ
-refusal_text (letters n) = letters_text n
-refusal_text (rack_shape row) = rack_shape_text row
-refusal_text (rack_entry i j v) = rack_entry_text i j v
-refusal_text (not_bijective i j k v) = not_bijective_text i j k v
-refusal_text (not_distributive i j k left right) = not_distributive_text i j k left right
-refusal_text (cocycle_shape row) = cocycle_shape_text row
-refusal_text (cocycle_zero i j) = cocycle_zero_text i j
-refusal_text (not_cocycle i j k left right) = not_cocycle_text i j k left right
+-- the line of rows and scalars that aren't a braid
+abbrev pub table_line : TableFault → List ℕ
+table_line (letters n) = letters_text n
+table_line (rack_shape row) = rack_shape_text row
+table_line (rack_entry i j v) = rack_entry_text i j v
+table_line (not_bijective i j k v) = not_bijective_text i j k v
+table_line (not_distributive i j k left right) = not_distributive_text i j k left right
+table_line (cocycle_shape row) = cocycle_shape_text row
+table_line (cocycle_zero i j) = cocycle_zero_text i j
+table_line (not_cocycle i j k left right) = not_cocycle_text i j k left right
+
+-- ---- expressions
+
+-- the words for what is wrong with an expression
+abbrev pub cause_words : Cause → List ℕ
+cause_words Early = codes "text ends too early"
+cause_words Byte = codes "unexpected byte"
+cause_words Letter = codes "letter outside the rack"
+cause_words LongNumber = codes "number longer than 9 digits"
+cause_words LongWord = codes "word longer than 60 letters"
+cause_words Terms = codes "more than 1000 terms"
+cause_words Surplus = codes "more than 1000 expressions"
+
+-- `refused: expression <number> at byte <place>: <cause>`
+unfoldable pub expression_text : ℕ → ℕ → Cause → List ℕ
+expression_text number place cause = codes "refused: expression " ++ decimal number ++ codes " at byte " ++ decimal place ++ codes ": " ++ cause_words cause ++ codes "\n"
+
+-- `refused: expression <number> longer than 7 letters`
+unfoldable pub long_expression_text : ℕ → List ℕ
+long_expression_text number = codes "refused: expression " ++ decimal number ++ codes " longer than 7 letters\n"
+
+-- ---- all refusals
+
+-- the line of a document that isn't read
+abbrev pub document_line : DocumentRefusal → List ℕ
+document_line not_toml = not_toml_text
+document_line (missing_key key) = missing_key_text key
+document_line (unknown_key text) = unknown_key_text text
+document_line (wrong_kind key) = wrong_kind_text key
+document_line (modulus p) = modulus_text p
+document_line (tables fault) = table_line fault
+document_line (expression number place cause) = expression_text number place cause
+
+-- the line of a refusal; want of memory has none
+abbrev pub refusal_line : Refusal → Option (List ℕ)
+refusal_line TooLong = Some too_long_text
+refusal_line (Input fault) = option_map document_line (refusal_of fault)
+refusal_line (LongExpression number) = Some (long_expression_text number)

@@ -1,7 +1,7 @@
-//! The header of a report.
+//! The headers of reports.
 
 ghost use Rattle.std.specs.Prelude.{◌≡◌, IfOk};
-ghost use Rattle.nichols_text.specs.Pieces.{header_piece};
+ghost use Rattle.nichols_text.specs.Pieces.{header_piece, symmetrize_piece};
 
 use crate::number::push_number;
 use nichols_braid::Braid;
@@ -25,6 +25,19 @@ pub fn header_text(
     push_number(&mut out, u64::from(degree_limit))?;
     out.extend_from_slice(b" rows ")?;
     push_number(&mut out, u64::from(rows_limit))?;
+    out.extend_from_slice(b"\n")?;
+    Ok(out)
+}
+
+/// `nichols symmetrize p <p> letters <n>`.
+#[tactic(auto, unfolding(crate::specs::Pieces::symmetrize_piece))]
+pub fn symmetrize_header(alloc: Global, braid: &Braid) -> Result<Vec<u8>, AllocError>
+    ensures { IfOk result (λ r. r.items ≡ symmetrize_piece braid.now) }
+{
+    let mut out = Vec::from_slice(alloc, b"nichols symmetrize p ")?;
+    push_number(&mut out, u64::from(braid.field().modulus()))?;
+    out.extend_from_slice(b" letters ")?;
+    push_number(&mut out, u64::from(braid.letters()))?;
     out.extend_from_slice(b"\n")?;
     Ok(out)
 }

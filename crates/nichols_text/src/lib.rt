@@ -3,17 +3,21 @@
 
 mod degree;
 mod end;
+mod expressions;
 mod header;
+mod key_line;
 mod line;
 mod number;
 mod refusal;
+mod table_lines;
 mod word;
 
 pub use degree::degree_text;
 pub use end::{EndLine, end_text};
-pub use header::header_text;
-pub use line::{Line, memory_line, not_built_line, read_fault_line, usage_line};
-pub use refusal::refusal_text;
+pub use expressions::{beyond_text, form_text, image_text};
+pub use header::{header_text, symmetrize_header};
+pub use line::{Line, memory_line, read_fault_line, usage_line};
+pub use refusal::{Refusal, refusal_text};
 
 #[cfg(test)]
 mod tests;

@@ -1,7 +1,7 @@
 //! Lines that take no memory.
 
 ghost use Rattle.std.specs.Prelude.{◌≡◌, ◌+◌, ◌≤◌, ◌++◌, length};
-ghost use Rattle.nichols_text.specs.Lines.{usage_text, read_fault_text, not_built_text, memory_text};
+ghost use Rattle.nichols_text.specs.Lines.{usage_text, read_fault_text, memory_text};
 
 use itoa::Buffer;
 use std::marker::Model;
@@ -84,12 +84,4 @@ pub fn read_fault_line() -> &'static [u8]
     ensures { result.now ≡ read_fault_text }
 {
     b"read fault\n"
-}
-
-/// The line for a document that isn't built into a braid.
-#[tactic(auto, unfolding(crate::specs::Lines::not_built_text))]
-pub fn not_built_line() -> &'static [u8]
-    ensures { result.now ≡ not_built_text }
-{
-    b"not built\n"
 }

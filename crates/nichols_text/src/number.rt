@@ -1,10 +1,10 @@
 //! Numbers in decimal.
 
-ghost use Rattle.std.specs.Prelude.{◌≡◌, ◌++◌, decimal, OnOk};
+ghost use Rattle.std.specs.Prelude.{◌≡◌, ◌++◌, decimal, IfOk, OnOk};
 ghost use Rattle.std.specs.Fmt.{signed_decimal};
 
 use itoa::Buffer;
-use std::alloc::AllocError;
+use std::alloc::{AllocError, Global};
 
 /// Puts a number behind a text.
 pub(crate) fn push_number(out: &mut Vec<u8>, n: u64) -> Result<(), AllocError>
@@ -22,4 +22,19 @@ pub(crate) fn push_integer(out: &mut Vec<u8>, n: i64) -> Result<(), AllocError>
     let mut buffer = Buffer::new();
     out.extend_from_slice(buffer.format(n).as_bytes())?;
     Ok(())
+}
+
+/// A number between two texts.
+pub(crate) fn numbered_text(
+    alloc: Global,
+    before: &str,
+    n: u64,
+    after: &str,
+) -> Result<Vec<u8>, AllocError>
+    ensures { IfOk result (λ r. r.items ≡ before.now ++ decimal n ++ after.now) }
+{
+    let mut out = Vec::from_slice(alloc, before.as_bytes())?;
+    push_number(&mut out, n)?;
+    out.extend_from_slice(after.as_bytes())?;
+    Ok(out)
 }

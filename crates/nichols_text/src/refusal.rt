@@ -1,168 +1,119 @@
 //! The lines of refusals.
 
-ghost use Rattle.std.specs.Prelude.{◌≡◌, ◌++◌, None, IfOk, OnOk, IfSome, IsErr};
-ghost use Rattle.nichols_braid.specs.FaultAnswers.{table_fault_in};
-ghost use Rattle.nichols_text.specs.Refusals.{letters_text, rack_shape_text, rack_entry_text, not_bijective_text, cocycle_shape_text, cocycle_zero_text, sides_text, not_distributive_text, not_cocycle_text, refusal_text};
+ghost use Rattle.std.specs.Prelude.{◌≡◌, ◌++◌, Some, IfOk, codes, option_map};
+ghost use Rattle.nichols_input.specs.Keys.{key_name};
+ghost use Rattle.nichols_input.specs.Refusal.{refusal_of};
+ghost use Rattle.nichols_text.specs.Refusals.{cause_words, document_line, expression_text, modulus_text, refusal_line};
 
-use crate::number::{push_integer, push_number};
-use nichols_braid::BraidFault;
+use crate::key_line::unknown_key_text;
+use crate::number::{numbered_text, push_integer, push_number};
+use crate::table_lines::tables_text;
+use nichols_field::FieldFault;
+use nichols_input::{Cause, InputFault, Key};
 use std::alloc::{AllocError, Global};
 
-/// The line for rows and scalars that aren't a braid. Want of memory has none.
-pub fn refusal_text(alloc: Global, fault: &BraidFault) -> Result<Vec<u8>, AllocError>
-    ensures text { IfOk result (λ r. IfSome (table_fault_in fault.now) (λ told. r.items ≡ refusal_text told)) }
-    ensures memory { table_fault_in fault.now ≡ None → IsErr result }
+/// Why nothing is computed of a document.
+#[derive(Debug, Drop)]
+pub enum Refusal {
+    /// The document has more than 1,048,576 bytes.
+    TooLong,
+    /// The document isn't read.
+    Input(InputFault),
+    /// The first expression, by its number from 1, with a word of more than 7 letters, where no such word is symmetrized.
+    LongExpression(u32),
+}
+
+/// The line of a refusal. Want of memory is no refusal, and has none: it is answered by an error.
+#[tactic(auto, unfolding(crate::specs::Refusals::too_long_text, crate::specs::Refusals::long_expression_text))]
+pub fn refusal_text(alloc: Global, refusal: &Refusal) -> Result<Vec<u8>, AllocError>
+    ensures { IfOk result (λ r. refusal_line refusal.now ≡ Some r.items) }
 {
-    match fault {
-        BraidFault::Letters(n) => letters_text(alloc, *n),
-        BraidFault::RackShape(row) => rack_shape_text(alloc, *row),
-        BraidFault::RackEntry(i, j, v) => rack_entry_text(alloc, *i, *j, *v),
-        BraidFault::NotBijective(i, j, k, v) => not_bijective_text(alloc, *i, *j, *k, *v),
-        BraidFault::NotDistributive(i, j, k, left, right) => {
-            not_distributive_text(alloc, *i, *j, *k, *left, *right)
-        }
-        BraidFault::CocycleShape(row) => cocycle_shape_text(alloc, *row),
-        BraidFault::CocycleZero(i, j) => cocycle_zero_text(alloc, *i, *j),
-        BraidFault::NotCocycle(i, j, k, left, right) => {
-            not_cocycle_text(alloc, *i, *j, *k, *left, *right)
-        }
-        BraidFault::Memory => Err(AllocError),
+    match refusal {
+        Refusal::TooLong => Vec::from_slice(
+            alloc,
+            b"refused: document longer than 1048576 bytes\n",
+        ),
+        Refusal::Input(fault) => input_text(alloc, fault),
+        Refusal::LongExpression(number) => numbered_text(
+            alloc,
+            "refused: expression ",
+            u64::from(*number),
+            " longer than 7 letters\n",
+        ),
     }
 }
 
-/// The line for a number of rows that is no number of letters.
-#[tactic(auto, unfolding(crate::specs::Refusals::letters_text))]
-fn letters_text(alloc: Global, n: usize) -> Result<Vec<u8>, AllocError>
-    ensures { IfOk result (λ r. r.items ≡ letters_text n) }
+/// The line of a document that isn't read.
+#[tactic(auto, unfolding(crate::specs::Refusals::not_toml_text, crate::specs::Refusals::missing_key_text, crate::specs::Refusals::wrong_kind_text))]
+fn input_text(alloc: Global, fault: &InputFault) -> Result<Vec<u8>, AllocError>
+    ensures { IfOk result (λ r. option_map document_line (refusal_of fault.now) ≡ Some r.items) }
 {
-    let mut out = Vec::from_slice(alloc, b"refused: ")?;
-    push_number(&mut out, n as u64)?;
-    out.extend_from_slice(b" letters outside 1 to 24\n")?;
-    Ok(out)
+    match fault {
+        InputFault::NotToml => Vec::from_slice(alloc, b"refused: not TOML\n"),
+        InputFault::MissingKey(key) => key_text(alloc, "refused: missing key ", *key),
+        InputFault::UnknownKey(key) => unknown_key_text(alloc, key),
+        InputFault::WrongKind(key) => key_text(alloc, "refused: wrong kind at key ", *key),
+        InputFault::Modulus(FieldFault::OutsideList(p)) => modulus_text(alloc, *p),
+        InputFault::Braid(tables) => tables_text(alloc, tables),
+        InputFault::Expression(number, place, cause) => {
+            expression_text(alloc, *number, *place, *cause)
+        }
+        InputFault::Memory => Err(AllocError),
+    }
 }
 
-/// The line for a row of the rack with a wrong length.
-#[tactic(auto, unfolding(crate::specs::Refusals::rack_shape_text))]
-fn rack_shape_text(alloc: Global, row: usize) -> Result<Vec<u8>, AllocError>
-    ensures { IfOk result (λ r. r.items ≡ rack_shape_text row) }
+/// A line that ends with a key.
+fn key_text(alloc: Global, before: &str, key: Key) -> Result<Vec<u8>, AllocError>
+    ensures { IfOk result (λ r. r.items ≡ before.now ++ key_name key ++ codes "\n") }
 {
-    let mut out = Vec::from_slice(alloc, b"refused: rack row ")?;
-    push_number(&mut out, row as u64)?;
-    out.extend_from_slice(b" has a wrong length\n")?;
-    Ok(out)
-}
-
-/// The line for an entry of the rack that is no letter.
-#[tactic(auto, unfolding(crate::specs::Refusals::rack_entry_text))]
-fn rack_entry_text(alloc: Global, i: u32, j: u32, v: i64) -> Result<Vec<u8>, AllocError>
-    ensures { IfOk result (λ r. r.items ≡ rack_entry_text i j v) }
-{
-    let mut out = Vec::from_slice(alloc, b"refused: rack entry ")?;
-    push_number(&mut out, u64::from(i))?;
-    out.extend_from_slice(b" ")?;
-    push_number(&mut out, u64::from(j))?;
-    out.extend_from_slice(b" is ")?;
-    push_integer(&mut out, v)?;
+    let mut out = Vec::from_slice(alloc, before.as_bytes())?;
+    out.extend_from_slice(key.name().as_bytes())?;
     out.extend_from_slice(b"\n")?;
     Ok(out)
 }
 
-/// The line for a row of the rack that has one letter twice.
-#[tactic(auto, unfolding(crate::specs::Refusals::not_bijective_text))]
-fn not_bijective_text(alloc: Global, i: u8, j: u8, k: u8, v: u8) -> Result<Vec<u8>, AllocError>
-    ensures { IfOk result (λ r. r.items ≡ not_bijective_text i j k v) }
+/// The line of a modulus that is no field's.
+#[tactic(auto, unfolding(crate::specs::Refusals::modulus_text))]
+fn modulus_text(alloc: Global, p: i64) -> Result<Vec<u8>, AllocError>
+    ensures { IfOk result (λ r. r.items ≡ modulus_text p) }
 {
-    let mut out = Vec::from_slice(alloc, b"refused: rack row ")?;
-    push_number(&mut out, u64::from(i))?;
-    out.extend_from_slice(b" has ")?;
-    push_number(&mut out, u64::from(v))?;
-    out.extend_from_slice(b" at places ")?;
-    push_number(&mut out, u64::from(j))?;
-    out.extend_from_slice(b" and ")?;
-    push_number(&mut out, u64::from(k))?;
-    out.extend_from_slice(b"\n")?;
+    let mut out = Vec::from_slice(alloc, b"refused: modulus ")?;
+    push_integer(&mut out, p)?;
+    out.extend_from_slice(b" not in the list\n")?;
     Ok(out)
 }
 
-/// The line for a table that isn't distributive at i, j, k: there `i ▷ (j ▷ k)` is `left`, and `(i ▷ j) ▷ (i ▷ k)` is `right`.
-#[tactic(auto, unfolding(crate::specs::Refusals::not_distributive_text))]
-fn not_distributive_text(
+/// The words for what is wrong with an expression.
+fn cause_words(cause: Cause) -> &'static str
+    ensures { result.now ≡ cause_words cause }
+{
+    match cause {
+        Cause::Early => "text ends too early",
+        Cause::Byte => "unexpected byte",
+        Cause::Letter => "letter outside the rack",
+        Cause::LongNumber => "number longer than 9 digits",
+        Cause::LongWord => "word longer than 60 letters",
+        Cause::Terms => "more than 1000 terms",
+        Cause::Surplus => "more than 1000 expressions",
+    }
+}
+
+/// The line of a text that is no expression, by its number and the place of its first fault.
+#[tactic(auto, unfolding(crate::specs::Refusals::expression_text))]
+fn expression_text(
     alloc: Global,
-    i: u8,
-    j: u8,
-    k: u8,
-    left: u8,
-    right: u8,
+    number: u32,
+    place: usize,
+    cause: Cause,
 ) -> Result<Vec<u8>, AllocError>
-    ensures { IfOk result (λ r. r.items ≡ not_distributive_text i j k left right) }
+    ensures { IfOk result (λ r. r.items ≡ expression_text number place cause) }
 {
-    let mut out = Vec::from_slice(alloc, b"refused: not distributive at ")?;
-    push_sides(&mut out, i, j, k, u32::from(left), u32::from(right))?;
-    Ok(out)
-}
-
-/// The line for a row of scalars that is missing, surplus or of a wrong length.
-#[tactic(auto, unfolding(crate::specs::Refusals::cocycle_shape_text))]
-fn cocycle_shape_text(alloc: Global, row: usize) -> Result<Vec<u8>, AllocError>
-    ensures { IfOk result (λ r. r.items ≡ cocycle_shape_text row) }
-{
-    let mut out = Vec::from_slice(alloc, b"refused: cocycle row ")?;
-    push_number(&mut out, row as u64)?;
-    out.extend_from_slice(b" is missing, surplus or of a wrong length\n")?;
-    Ok(out)
-}
-
-/// The line for a scalar that is zero.
-#[tactic(auto, unfolding(crate::specs::Refusals::cocycle_zero_text))]
-fn cocycle_zero_text(alloc: Global, i: u8, j: u8) -> Result<Vec<u8>, AllocError>
-    ensures { IfOk result (λ r. r.items ≡ cocycle_zero_text i j) }
-{
-    let mut out = Vec::from_slice(alloc, b"refused: cocycle entry ")?;
-    push_number(&mut out, u64::from(i))?;
-    out.extend_from_slice(b" ")?;
-    push_number(&mut out, u64::from(j))?;
-    out.extend_from_slice(b" is zero\n")?;
-    Ok(out)
-}
-
-/// The line for scalars that are no cocycle at i, j, k: there `q(i, j ▷ k) q(j, k)` is `left`, and `q(i ▷ j, i ▷ k) q(i, k)` is `right`.
-#[tactic(auto, unfolding(crate::specs::Refusals::not_cocycle_text))]
-fn not_cocycle_text(
-    alloc: Global,
-    i: u8,
-    j: u8,
-    k: u8,
-    left: u32,
-    right: u32,
-) -> Result<Vec<u8>, AllocError>
-    ensures { IfOk result (λ r. r.items ≡ not_cocycle_text i j k left right) }
-{
-    let mut out = Vec::from_slice(alloc, b"refused: not a cocycle at ")?;
-    push_sides(&mut out, i, j, k, left, right)?;
-    Ok(out)
-}
-
-/// Puts three letters behind a text, and the two sides of a law that differ there.
-#[tactic(auto, unfolding(crate::specs::Refusals::sides_text))]
-fn push_sides(
-    out: &mut Vec<u8>,
-    i: u8,
-    j: u8,
-    k: u8,
-    left: u32,
-    right: u32,
-) -> Result<(), AllocError>
-    ensures { OnOk result (out.new.items ≡ out.old.items ++ sides_text i j k left right) }
-{
-    push_number(out, u64::from(i))?;
-    out.extend_from_slice(b" ")?;
-    push_number(out, u64::from(j))?;
-    out.extend_from_slice(b" ")?;
-    push_number(out, u64::from(k))?;
+    let mut out = Vec::from_slice(alloc, b"refused: expression ")?;
+    push_number(&mut out, u64::from(number))?;
+    out.extend_from_slice(b" at byte ")?;
+    push_number(&mut out, place as u64)?;
     out.extend_from_slice(b": ")?;
-    push_number(out, u64::from(left))?;
-    out.extend_from_slice(b" and ")?;
-    push_number(out, u64::from(right))?;
+    out.extend_from_slice(cause_words(cause).as_bytes())?;
     out.extend_from_slice(b"\n")?;
-    Ok(())
+    Ok(out)
 }

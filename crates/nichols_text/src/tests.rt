@@ -1,6 +1,7 @@
 use super::*;
 use nichols_braid::{Braid, BraidFault, Scalars};
-use nichols_field::Field;
+use nichols_field::{Field, FieldFault};
+use nichols_input::{Cause, InputFault, Key, KeyText};
 use nichols_words::{Comb, Relation, Term, Word};
 use std::alloc::{AllocError, Global};
 use std::test::Fail;
@@ -58,7 +59,7 @@ fn degrees(rt: HostRuntime) -> Result<(), Fail> {
 }
 
 #[test]
-fn headers_and_ends(rt: HostRuntime) -> Result<(), Fail> {
+fn headers(rt: HostRuntime) -> Result<(), Fail> {
     let alloc = rt.alloc();
     let field = Field::new(65521).map_err(|_| "no field")?;
     let mut rack = Vec::new(alloc);
@@ -68,19 +69,104 @@ fn headers_and_ends(rt: HostRuntime) -> Result<(), Fail> {
     )?;
     let header = header_text(alloc, &braid, 12, 1024)?;
     assert!(rt; header.as_slice() == b"nichols p 65521 letters 1 degree 12 rows 1024\n".as_slice());
+    let symmetrize = symmetrize_header(alloc, &braid)?;
+    assert!(rt; symmetrize.as_slice() == b"nichols symmetrize p 65521 letters 1\n".as_slice());
+    Ok(())
+}
+
+#[test]
+fn ends(rt: HostRuntime) -> Result<(), Fail> {
     let closed = EndLine::Closed {
-        top: 1,
-        dimension: 2,
+        top: 4,
+        dimension: 12,
     };
-    let end = end_text(alloc, &closed, &[1, 1, 0])?;
-    assert!(rt; end.as_slice() == b"closed top 1 dimension 2\nhilbert 1 1 0\n".as_slice());
-    let stopped = end_text(alloc, &EndLine::DegreeLimit { last: 0 }, &[1])?;
-    assert!(rt; stopped.as_slice() == b"stopped degree limit last 0\nhilbert 1\n".as_slice());
+    let rows = EndLine::Rows {
+        degree: 1,
+        product: 1,
+        count: 2,
+    };
+    let ends: [(EndLine, &[u64], Option<&[u32]>, &str); 8] = [
+        (
+            closed,
+            &[1, 3, 4, 3, 1, 0],
+            Some(&[3, 2, 2]),
+            "closed top 4 dimension 12\nhilbert 1 3 4 3 1 0\nfactors 3 2 2\n",
+        ),
+        (
+            closed,
+            &[1, 3, 4, 3, 1, 0],
+            None,
+            "closed top 4 dimension 12\nhilbert 1 3 4 3 1 0\nfactors none\n",
+        ),
+        (
+            EndLine::Closed {
+                top: 0,
+                dimension: 1,
+            },
+            &[1, 0],
+            Some(&[]),
+            "closed top 0 dimension 1\nhilbert 1 0\nfactors\n",
+        ),
+        (
+            EndLine::DegreeLimit { last: 0 },
+            &[1],
+            None,
+            "stopped degree limit last 0\nhilbert 1\n",
+        ),
+        (
+            EndLine::DegreeLimit { last: 1 },
+            &[1, 3],
+            Some(&[2]),
+            "stopped degree limit last 1\nhilbert 1 3\n",
+        ),
+        (
+            EndLine::Wide { degree: 4 },
+            &[1, 24, 284, 2208],
+            None,
+            "stopped wide degree 4 last 3\nhilbert 1 24 284 2208\n",
+        ),
+        (
+            rows,
+            &[1],
+            None,
+            "stopped rows degree 1 product 1 count 2 last 0\nhilbert 1\n",
+        ),
+        (
+            EndLine::Rows {
+                degree: 60,
+                product: 5040,
+                count: 18446744073709551615,
+            },
+            &[],
+            None,
+            "stopped rows degree 60 product 5040 count 18446744073709551615 last 59\nhilbert\n",
+        ),
+    ];
+    for (line, dimensions, factors, expected) in ends {
+        let text = end_text(rt.alloc(), &line, dimensions, factors)?;
+        assert_eq!(rt; text.as_slice(), expected.as_bytes());
+    }
+    Ok(())
+}
+
+#[test]
+fn expressions(rt: HostRuntime) -> Result<(), Fail> {
+    let alloc = rt.alloc();
+    let field = Field::new(101).map_err(|_| "no field")?;
+    let comb = form(alloc, field)?;
+    let image = image_text(alloc, 12, &comb)?;
+    assert!(rt; image.as_slice() == b"image 12 = 100*1.2 + 2*2.3\n".as_slice());
+    let zero = image_text(alloc, 1, &Comb::zero(alloc))?;
+    assert!(rt; zero.as_slice() == b"image 1 = 0\n".as_slice());
+    let normal = form_text(alloc, 1000, &comb)?;
+    assert!(rt; normal.as_slice() == b"form 1000 = 100*1.2 + 2*2.3\n".as_slice());
+    let beyond = beyond_text(alloc, 2, 60)?;
+    assert!(rt; beyond.as_slice() == b"form 2 beyond 60\n".as_slice());
     Ok(())
 }
 
 /// The faults of rows and scalars with their lines.
-const REFUSALS: [(BraidFault, &str); 8] = [
+const TABLES: [(BraidFault, &str); 8] = [
     (
         BraidFault::Letters(25),
         "refused: 25 letters outside 1 to 24\n",
@@ -115,11 +201,103 @@ const REFUSALS: [(BraidFault, &str); 8] = [
     ),
 ];
 
+/// The causes of faulty expressions with their lines, each at place 17 of expression 9.
+const CAUSES: [(Cause, &str); 7] = [
+    (
+        Cause::Early,
+        "refused: expression 9 at byte 17: text ends too early\n",
+    ),
+    (
+        Cause::Byte,
+        "refused: expression 9 at byte 17: unexpected byte\n",
+    ),
+    (
+        Cause::Letter,
+        "refused: expression 9 at byte 17: letter outside the rack\n",
+    ),
+    (
+        Cause::LongNumber,
+        "refused: expression 9 at byte 17: number longer than 9 digits\n",
+    ),
+    (
+        Cause::LongWord,
+        "refused: expression 9 at byte 17: word longer than 60 letters\n",
+    ),
+    (
+        Cause::Terms,
+        "refused: expression 9 at byte 17: more than 1000 terms\n",
+    ),
+    (
+        Cause::Surplus,
+        "refused: expression 9 at byte 17: more than 1000 expressions\n",
+    ),
+];
+
+/// Keys that no document has, and what is printed of them.
+const UNKNOWN: [(&str, &str); 5] = [
+    ("colour", "colour"),
+    ("", ""),
+    ("a b~!\t\u{7F}", "a?b~!??"),
+    ("\u{e9}", "??"),
+    (
+        "123456789012345678901234567890123456789012345678901234567890x",
+        "123456789012345678901234567890123456789012345678901234567890",
+    ),
+];
+
+/// Whether a refusal has this line.
+fn has_line(alloc: Global, refusal: &Refusal, line: &str) -> Result<bool, AllocError> {
+    let text = refusal_text(alloc, refusal)?;
+    Ok(text.as_slice() == line.as_bytes())
+}
+
 #[test]
-fn refusals(rt: HostRuntime) -> Result<(), Fail> {
-    for (fault, line) in REFUSALS {
-        let text = refusal_text(rt.alloc(), &fault)?;
-        assert_eq!(rt; text.as_slice(), line.as_bytes());
+fn refusals_of_documents(rt: HostRuntime) -> Result<(), Fail> {
+    let alloc = rt.alloc();
+    let cases = [
+        (
+            Refusal::TooLong,
+            "refused: document longer than 1048576 bytes\n",
+        ),
+        (Refusal::Input(InputFault::NotToml), "refused: not TOML\n"),
+        (
+            Refusal::Input(InputFault::MissingKey(Key::Cocycle)),
+            "refused: missing key cocycle\n",
+        ),
+        (
+            Refusal::Input(InputFault::WrongKind(Key::Expressions)),
+            "refused: wrong kind at key expressions\n",
+        ),
+        (
+            Refusal::Input(InputFault::Modulus(FieldFault::OutsideList(-7))),
+            "refused: modulus -7 not in the list\n",
+        ),
+        (
+            Refusal::LongExpression(3),
+            "refused: expression 3 longer than 7 letters\n",
+        ),
+    ];
+    for (refusal, line) in &cases {
+        assert!(rt; has_line(alloc, refusal, line)?, "{line}");
+    }
+    Ok(())
+}
+
+#[test]
+fn refusals_of_tables_and_texts(rt: HostRuntime) -> Result<(), Fail> {
+    let alloc = rt.alloc();
+    for (fault, line) in TABLES {
+        let refusal = Refusal::Input(InputFault::Braid(fault));
+        assert!(rt; has_line(alloc, &refusal, line)?, "{line}");
+    }
+    for (cause, line) in CAUSES {
+        let refusal = Refusal::Input(InputFault::Expression(9, 17, cause));
+        assert!(rt; has_line(alloc, &refusal, line)?, "{line}");
+    }
+    for (key, shown) in UNKNOWN {
+        let refusal = Refusal::Input(InputFault::UnknownKey(KeyText::new(alloc, key)?));
+        let line = format!(in alloc; "refused: unknown key {shown}\n")?;
+        assert!(rt; has_line(alloc, &refusal, line.as_str())?, "{key}");
     }
     Ok(())
 }
@@ -129,7 +307,6 @@ fn single_lines(rt: HostRuntime) {
     assert!(rt; memory_line(None).bytes() == b"memory last none\n".as_slice());
     assert!(rt; memory_line(Some(60)).bytes() == b"memory last 60\n".as_slice());
     assert!(rt; read_fault_line() == b"read fault\n".as_slice());
-    assert!(rt; not_built_line() == b"not built\n".as_slice());
     assert!(rt;
         usage_line()
             == b"usage: nichols algebra or reduce or symmetrize or points K [--degree N] [--rows N] [--workers N] [--window N] [--brief]\n".as_slice()

@@ -1,14 +1,15 @@
 //! Words, combinations and relations.
 
 ghost use Rattle.std.specs.Prelude.{◌≡◌, ◌++◌, OnOk};
-ghost use Rattle.nichols_text.specs.Words.{word_text, term_text, form_text, relation_line};
+ghost use Rattle.nichols_expression.specs.Printed.{word_text, term_text, form_text};
+ghost use Rattle.nichols_text.specs.Words.{relation_line};
 
 use crate::number::push_number;
 use nichols_words::{Comb, Relation, Term, Word};
 use std::alloc::AllocError;
 
 /// Puts a word behind a text: its letters joined by dots, or `e`.
-#[tactic(auto, unfolding(crate::specs::Words::word_text))]
+#[tactic(auto, unfolding(nichols_expression::specs::Printed::word_text))]
 pub(crate) fn push_word(out: &mut Vec<u8>, word: &Word) -> Result<(), AllocError>
     ensures { OnOk result (out.new.items ≡ out.old.items ++ word_text word.now) }
 {
@@ -25,7 +26,7 @@ pub(crate) fn push_word(out: &mut Vec<u8>, word: &Word) -> Result<(), AllocError
 }
 
 /// Puts a term behind a text.
-#[tactic(auto, unfolding(crate::specs::Words::term_text))]
+#[tactic(auto, unfolding(nichols_expression::specs::Printed::term_text))]
 fn push_term(out: &mut Vec<u8>, term: &Term) -> Result<(), AllocError>
     ensures { OnOk result (out.new.items ≡ out.old.items ++ term_text term.now) }
 {
@@ -35,7 +36,7 @@ fn push_term(out: &mut Vec<u8>, term: &Term) -> Result<(), AllocError>
 }
 
 /// Puts a combination behind a text: its terms joined by pluses, or `0`.
-#[tactic(auto, unfolding(crate::specs::Words::form_text))]
+#[tactic(auto, unfolding(nichols_expression::specs::Printed::form_text))]
 pub(crate) fn push_form(out: &mut Vec<u8>, form: &Comb) -> Result<(), AllocError>
     ensures { OnOk result (out.new.items ≡ out.old.items ++ form_text form.now) }
 {

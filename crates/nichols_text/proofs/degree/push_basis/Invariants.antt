@@ -1,6 +1,6 @@
 use Rattle.std.proofs.Common.{◌≡◌, ◌++◌, take, codes}
 use Rattle.std.specs.List.{flat_map}
-use Rattle.nichols_text.specs.Words.{word_text}
+use Rattle.nichols_expression.specs.Printed.{word_text}
 use Rattle.nichols_text.proofs.degree.push_basis.Given as goal
 
 abbrev pub invariant-loop-word : goal.invariant-loop-word

@@ -1,6 +1,6 @@
 use Rattle.std.proofs.Common.{◌≡◌, ◌++◌, take, codes}
 use Rattle.std.specs.List.{flat_map}
-use Rattle.nichols_text.specs.Words.{term_text}
+use Rattle.nichols_expression.specs.Printed.{term_text}
 use Rattle.nichols_text.proofs.word.push_form.Given as goal
 
 abbrev pub invariant-loop-term : goal.invariant-loop-term

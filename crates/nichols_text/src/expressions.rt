@@ -1,0 +1,48 @@
+//! The lines of a document's expressions.
+
+ghost use Rattle.std.specs.Prelude.{◌≡◌, IfOk};
+ghost use Rattle.nichols_text.specs.Expressions.{image_line, form_line, beyond_line};
+
+use crate::number::push_number;
+use crate::word::push_form;
+use nichols_words::Comb;
+use std::alloc::{AllocError, Global};
+
+/// `image <k> = <image>`: the image of expression k, counted from 1.
+#[tactic(auto, unfolding(crate::specs::Expressions::image_line))]
+pub fn image_text(alloc: Global, number: u32, image: &Comb) -> Result<Vec<u8>, AllocError>
+    ensures { IfOk result (λ r. r.items ≡ image_line number image.now) }
+{
+    let mut out = Vec::from_slice(alloc, b"image ")?;
+    push_number(&mut out, u64::from(number))?;
+    out.extend_from_slice(b" = ")?;
+    push_form(&mut out, image)?;
+    out.extend_from_slice(b"\n")?;
+    Ok(out)
+}
+
+/// `form <k> = <form>`: the normal form of expression k, counted from 1.
+#[tactic(auto, unfolding(crate::specs::Expressions::form_line))]
+pub fn form_text(alloc: Global, number: u32, form: &Comb) -> Result<Vec<u8>, AllocError>
+    ensures { IfOk result (λ r. r.items ≡ form_line number form.now) }
+{
+    let mut out = Vec::from_slice(alloc, b"form ")?;
+    push_number(&mut out, u64::from(number))?;
+    out.extend_from_slice(b" = ")?;
+    push_form(&mut out, form)?;
+    out.extend_from_slice(b"\n")?;
+    Ok(out)
+}
+
+/// `form <k> beyond <m>`: expression k, counted from 1, has a longer word than the last finished degree m.
+#[tactic(auto, unfolding(crate::specs::Expressions::beyond_line))]
+pub fn beyond_text(alloc: Global, number: u32, last: u32) -> Result<Vec<u8>, AllocError>
+    ensures { IfOk result (λ r. r.items ≡ beyond_line number last) }
+{
+    let mut out = Vec::from_slice(alloc, b"form ")?;
+    push_number(&mut out, u64::from(number))?;
+    out.extend_from_slice(b" beyond ")?;
+    push_number(&mut out, u64::from(last))?;
+    out.extend_from_slice(b"\n")?;
+    Ok(out)
+}
