@@ -1,24 +1,29 @@
 -- Degrees over the symmetrizer, from the rules of the derivations; the end that is reached.
-use Rattle.std.proofs.Common.{◌≡◌, ℕ, suc, ◌<◌, ◌≤◌, Bool, true, false, [], ◌∷◌, length, refl, sym, ◌∙◌, ap, subst, arith}
-use Rattle.std.specs.Prelude.{Option, Some, is_some}
+use Rattle.std.proofs.Common.{◌≡◌, ℕ, suc, ◌≤◌, Bool, true, false, cond, List, [], ◌∷◌, length, map, refl, sym, ◌∙◌, ap, subst, arith, nat_lt}
+use Rattle.std.specs.Prelude.{None, Some, is_some, filter, IsTrue, ◌↔◌}
 use Rattle.std.specs.List.{Contains}
-use Rattle.std.proofs.lemmas.Bool.Decides.{Decides-eqb}
+use Rattle.std.proofs.lemmas.Bool.Decides.{Decides-eqb, nat_tests}
 use Rattle.std.proofs.lemmas.List.{nil_from_length}
-use Rattle.nichols_braid.specs.declared.TheConstants.{MOST_DEGREES}
+use Rattle.nichols_tensor.specs.Words.{words}
+use Rattle.nichols_braid.specs.declared.TheConstants.{MOST_DEGREES, MOST_ROWS}
 use Rattle.nichols_braid.specs.Braid.{BraidValue, IsBraid}
 use Rattle.nichols_braid.specs.Kernel.{is_in_kernel, is_killed}
-use Rattle.nichols_braid.specs.Least.{basis, relations}
+use Rattle.nichols_braid.specs.Least.{basis, candidates, relations}
+use Rattle.nichols_braid.specs.Product.{product_of, has_product}
+use Rattle.nichols_braid.specs.Products.{each_once, products, rows}
 use Rattle.nichols_braid.specs.End.{dimension, is_empty_degree}
 use Rattle.nichols_braid.proofs.EndLaws.{in_finished}
 use Rattle.nichols_braid.proofs.FirstDegree.{basis_first}
 use Rattle.nichols_lift.proofs.Readings.{one_reading}
 use Rattle.nichols_block.specs.Rule.{PlainRule, rule_of}
-use Rattle.nichols_graded.specs.declared.ends.End.{End}
-use Rattle.nichols_graded.specs.Ends.{finished_degrees, limit_stops, end_reached}
-use Rattle.nichols_graded.specs.Graded.{GradedValue, IsGraded}
+use Rattle.nichols_graded.specs.declared.ahead.Ahead.{Ahead}
+use Rattle.nichols_graded.specs.declared.ahead.Ahead.TheVariants as ahead
 use Rattle.nichols_graded.specs.declared.ends.End.TheVariants.{Stopped}
-use Rattle.nichols_graded.specs.declared.ends.Stop.TheVariants.{DegreeLimit}
-use Rattle.nichols_graded.proofs.EndLaws.{free_within, finished_within, next_is_finished, end_closed, end_limited}
+use Rattle.nichols_graded.specs.declared.ends.Stop.{Stop}
+use Rattle.nichols_graded.specs.declared.ends.Stop.TheVariants.{Rows}
+use Rattle.nichols_graded.specs.Ends.{rows_stop, rows_of_products, stops_at, finished_degrees, end_reached}
+use Rattle.nichols_graded.specs.Graded.{GradedValue, IsGraded, IsAhead, end_known}
+use Rattle.nichols_graded.proofs.EndLaws.{stop_by_rows, free_is_within, free_if_finished, next_is_finished, end_closed, end_stopped, end_none}
 
 pub rule_degree : (braid : BraidValue) (m : ℕ) (rule : PlainRule) → rule ≡ rule_of braid m → rule.degree ≡ m
 unfolding rule_of
@@ -50,43 +55,113 @@ filled_is braid is m some = at (is_empty_degree is_in_kernel braid m) refl
     at true e = absurd (some (nil_from_length (basis is_killed braid m) (ap length (sym ((one_reading braid is).alike.bases m)) ∙ (Decides-eqb (dimension is_in_kernel braid m) 0).0 e)))
     at false e = e
 
+pub closed_is : (braid : BraidValue) → IsBraid braid → (m : ℕ) (b : Bool) → IsTrue b ↔ (basis is_killed braid m ≡ []) → b ≡ is_empty_degree is_in_kernel braid m
+closed_is braid is m true h = sym (empty_is braid is m (h.0 refl))
+closed_is braid is m false h = sym (filled_is braid is m (λ e. let t : false ≡ true = h.1 e in cc))
+
 pub first_is_filled : (braid : BraidValue) → IsBraid braid → is_empty_degree is_in_kernel braid 0 ≡ false
 first_is_filled braid is = filled_is braid is 0 (λ none. let c : [] ∷ [] ≡ [] = sym (basis_first braid is.field) ∙ none in cc)
 
+-- ---- degree 0
+
+abbrev kept_if : Bool → List (List ℕ)
+kept_if b = cond b ([] ∷ []) []
+
+few_kept : (b : Bool) → length (kept_if b) ≤ 1
+few_kept true = omega arith
+few_kept false = omega arith
+
+few_of_one : (p : List ℕ → Bool) → length (filter p ([] ∷ [])) ≤ 1
+few_of_one p = few_kept (p [])
+
+few_first_rows : (braid : BraidValue) (g : List ℕ) → rows is_in_kernel braid 0 g ≤ 1
+unfolding rows candidates
+few_first_rows braid g = few_of_one (has_product braid g)
+
+first_products : (braid : BraidValue) → products braid 0 ≡ product_of braid [] ∷ []
+unfolding products each_once words
+first_products braid = refl
+
+one_row_stop : (limit m number count : ℕ) → count ≤ limit → rows_stop limit m number (count ∷ []) ≡ None
+unfolding rows_stop
+one_row_stop limit m number count few = ap (λ b. cond b (Some (Rows m number count)) None) (let t : nat_lt limit count ≡ false = grind (arith, nat_tests) in t)
+
+first_is_free : (braid : BraidValue) (limit rows_limit : ℕ) → 1 ≤ rows_limit → stops_at braid limit rows_limit 0 ≡ None
+unfolding rows_of_products
+first_is_free braid limit rows_limit some =
+    let one : length (products braid 0) ≡ 1 = ap length (first_products braid) in
+    let few : rows is_in_kernel braid 0 (product_of braid []) ≤ 1 = few_first_rows braid (product_of braid []) in
+    stop_by_rows braid limit rows_limit 0 (omega arith) (omega arith)
+    ∙ ap (λ gs. rows_stop rows_limit 0 1 (map (rows is_in_kernel braid 0) gs)) (first_products braid)
+    ∙ one_row_stop rows_limit 0 1 (rows is_in_kernel braid 0 (product_of braid [])) (omega arith)
+
 -- ---- what holds between calls
 
-pub graded_start : (braid : BraidValue) → IsBraid braid → (limit last : ℕ) → limit ≤ MOST_DEGREES → last ≡ 0 → IsGraded (record { braid = braid; limit = limit; last = last; ended = false })
-graded_start braid is limit last most e = record {
+pub graded_start : (braid : BraidValue) → IsBraid braid → (limit rows_limit last : ℕ) → limit ≤ MOST_DEGREES → 1 ≤ rows_limit → rows_limit ≤ MOST_ROWS → last ≡ 0 →
+    IsGraded (record { braid = braid; limit = limit; rows = rows_limit; last = last; ended = false })
+graded_start braid is limit rows_limit last most some few e = record {
   braid = is;
   most = most;
-  finished = subst (Contains (finished_degrees braid limit)) (sym e) (in_finished is_in_kernel braid (limit_stops limit) 0 (omega arith) (free_within limit 0 (omega arith)) (λ j less. absurd (omega arith)));
+  some_rows = some;
+  few_rows = few;
+  finished =
+      subst (Contains (finished_degrees braid limit rows_limit)) (sym e)
+      (in_finished is_in_kernel braid (stops_at braid limit rows_limit) 0 (omega arith) (λ j below. let same : 0 ≡ j = omega arith in subst (λ k. stops_at braid limit rows_limit k ≡ None) same (first_is_free braid limit rows_limit some))
+      (λ j less. absurd (omega arith)));
   going = λ going. ap (is_empty_degree is_in_kernel braid) e ∙ first_is_filled braid is;
 }
 
-none_is_filled : (braid : BraidValue) (limit m : ℕ) (end : Option End) → Contains (finished_degrees braid limit) m → end ≡ end_reached braid limit m → is_some end ≡ false → is_empty_degree is_in_kernel braid m ≡ false
-none_is_filled braid limit m end i e none = at (is_empty_degree is_in_kernel braid m) refl
-  where
-    at : (b : Bool) → is_empty_degree is_in_kernel braid m ≡ b → is_empty_degree is_in_kernel braid m ≡ false
-    at true empty = absurd (let c : true ≡ false = sym (ap is_some (e ∙ end_closed braid limit m i empty)) ∙ none in cc)
-    at false full = full
-
 pub last_within : (g : GradedValue) → IsGraded g → (g.last ≤ g.limit) × (g.limit ≤ MOST_DEGREES)
-last_within g h = (finished_within g.braid g.limit g.last h.finished, h.most)
+last_within g h = (free_is_within g.braid g.limit g.rows g.last (free_if_finished g.braid (stops_at g.braid g.limit g.rows) g.last h.finished), h.most)
 
--- where the end was not reached the next degree is finished, if the limit allows it
-pub next_finished : (g : GradedValue) → IsGraded g → g.ended ≡ false → g.last < g.limit → Contains (finished_degrees g.braid g.limit) (suc g.last)
-next_finished g h going less = next_is_finished g.braid g.limit g.last h.most h.finished (h.going going) less
+-- a degree that isn't stopped is within the limits
+pub next_within : (g : GradedValue) → IsGraded g → stops_at g.braid g.limit g.rows (suc g.last) ≡ None → suc g.last ≤ MOST_DEGREES
+next_within g h free = let within : suc g.last ≤ g.limit = free_is_within g.braid g.limit g.rows (suc g.last) free in let most = h.most in omega arith
 
--- and otherwise the limit is the end
-pub limit_ends : (g : GradedValue) → IsGraded g → g.ended ≡ false → g.limit ≤ g.last → end_reached g.braid g.limit g.last ≡ Some (Stopped DegreeLimit)
-limit_ends g h going most = end_limited g.braid g.limit g.last h.finished (h.going going) most
+-- where the end was not reached the next degree is finished, if nothing stops it
+pub next_finished : (g : GradedValue) → IsGraded g → g.ended ≡ false → stops_at g.braid g.limit g.rows (suc g.last) ≡ None → Contains (finished_degrees g.braid g.limit g.rows) (suc g.last)
+next_finished g h going free = next_is_finished g.braid (stops_at g.braid g.limit g.rows) g.last (next_within g h free) h.finished (h.going going) free
 
-pub graded_next : (g : GradedValue) (end : Option End) → IsGraded g → g.ended ≡ false → g.last < g.limit → end ≡ end_reached g.braid g.limit (suc g.last) → IsGraded (record g { last = suc g.last; ended = is_some end })
-graded_next g end h going less e =
-    let next : Contains (finished_degrees g.braid g.limit) (suc g.last) = next_finished g h going less in
-    record {
-      braid = h.braid;
-      most = h.most;
-      finished = next;
-      going = none_is_filled g.braid g.limit (suc g.last) end next e;
-    }
+-- and otherwise that is the end
+pub stop_ends : (g : GradedValue) (stop : Stop) → IsGraded g → g.ended ≡ false → stops_at g.braid g.limit g.rows (suc g.last) ≡ Some stop → end_reached g.braid g.limit g.rows g.last ≡ Some (Stopped stop)
+stop_ends g stop h going e = end_stopped g.braid g.limit g.rows g.last stop h.finished (h.going going) e
+
+-- the end after a finished degree, from what is known of the next
+pub known_end : (braid : BraidValue) (limit rows_limit m : ℕ) (next : Ahead) → limit ≤ MOST_DEGREES → Contains (finished_degrees braid limit rows_limit) m → IsAhead braid limit rows_limit (suc m) next →
+    end_known (is_empty_degree is_in_kernel braid m) next ≡ end_reached braid limit rows_limit m
+known_end braid limit rows_limit m next most i known = at (is_empty_degree is_in_kernel braid m) refl next known
+  where
+    at : (b : Bool) → is_empty_degree is_in_kernel braid m ≡ b → (next : Ahead) → IsAhead braid limit rows_limit (suc m) next → end_known b next ≡ end_reached braid limit rows_limit m
+    at true empty next known = sym (end_closed braid limit rows_limit m i empty)
+    at false full (ahead.Stopped stop) known = sym (end_stopped braid limit rows_limit m stop i full known)
+    at false full (ahead.Open ps) known = sym (end_none braid limit rows_limit m most i full known.0)
+
+filled_if_going : (b : Bool) (next : Ahead) → is_some (end_known b next) ≡ false → b ≡ false
+filled_if_going true next e = let c : true ≡ false = e in cc
+filled_if_going false next e = refl
+
+pub graded_next : (g : GradedValue) (next : Ahead) → IsGraded g → g.ended ≡ false → stops_at g.braid g.limit g.rows (suc g.last) ≡ None →
+    IsGraded (record g { last = suc g.last; ended = is_some (end_known (is_empty_degree is_in_kernel g.braid (suc g.last)) next) })
+graded_next g next h going free = record {
+  braid = h.braid;
+  most = h.most;
+  some_rows = h.some_rows;
+  few_rows = h.few_rows;
+  finished = next_finished g h going free;
+  going = λ e. filled_if_going (is_empty_degree is_in_kernel g.braid (suc g.last)) next e;
+}
+
+-- a graded algebra that was ended
+pub graded_ended : (g : GradedValue) → IsGraded g → IsGraded (record g { ended = true })
+graded_ended g h = record { braid = h.braid; most = h.most; some_rows = h.some_rows; few_rows = h.few_rows; finished = h.finished; going = λ e. let c : true ≡ false = e in cc }
+
+-- ---- what is known of a degree
+
+pub stopped_ahead : (braid : BraidValue) (limit rows_limit m : ℕ) (next : Ahead) (stop : Stop) → next ≡ ahead.Stopped stop → IsAhead braid limit rows_limit m next → stops_at braid limit rows_limit m ≡ Some stop
+stopped_ahead braid limit rows_limit m next stop e known = subst (IsAhead braid limit rows_limit m) e known
+
+pub open_ahead : (braid : BraidValue) (limit rows_limit m : ℕ) (next : Ahead) (ps : List (List ℕ)) → next ≡ ahead.Open ps → IsAhead braid limit rows_limit m next → (stops_at braid limit rows_limit m ≡ None) × (ps ≡ products braid m)
+open_ahead braid limit rows_limit m next ps e known = subst (IsAhead braid limit rows_limit m) e known
+
+pub same_ahead : (a b : BraidValue) (limit rows_limit m n : ℕ) (next : Ahead) → a ≡ b → m ≡ n → IsAhead a limit rows_limit (suc m) next → IsAhead b limit rows_limit (suc n) next
+same_ahead a b limit rows_limit m n next same e known = subst (λ k. IsAhead b limit rows_limit (suc k) next) e (subst (λ x. IsAhead x limit rows_limit (suc m) next) same known)

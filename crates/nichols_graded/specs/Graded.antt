@@ -1,31 +1,50 @@
 -- An algebra up to its last finished degree, as contracts see it.
-use Rattle.std.specs.Prelude.{◌≡◌, ℕ, ◌≤◌, Bool, false}
+use Rattle.std.specs.Prelude.{◌≡◌, ℕ, ◌≤◌, Bool, true, false, Option, None, Some}
 use Rattle.std.specs.List.{Contains}
-use Rattle.nichols_braid.specs.declared.TheConstants.{MOST_DEGREES}
+use Rattle.nichols_braid.specs.declared.TheConstants.{MOST_DEGREES, MOST_ROWS}
 use Rattle.nichols_braid.specs.Braid.{BraidValue, IsBraid}
 use Rattle.nichols_braid.specs.Kernel.{is_in_kernel}
 use Rattle.nichols_braid.specs.End.{is_empty_degree}
+use Rattle.nichols_braid.specs.Products.{products}
 use Rattle.nichols_block.specs.Levels.{LevelsValue}
-use Rattle.nichols_graded.specs.Ends.{finished_degrees}
+use Rattle.nichols_graded.specs.declared.ahead.Ahead.{Ahead}
+use Rattle.nichols_graded.specs.declared.ahead.Ahead.TheVariants as ahead
+use Rattle.nichols_graded.specs.declared.ends.End.{End}
+use Rattle.nichols_graded.specs.declared.ends.End.TheVariants.{Closed, Stopped}
+use Rattle.nichols_graded.specs.Ends.{finished_degrees, stops_at}
 
--- what contracts see: the braid, the degree limit, the last finished degree, and whether the end was reached
+-- what contracts see: the braid, the limits, the last finished degree, and whether the end was reached
 pub record GradedValue : Type 0 where
   pub braid : BraidValue
   pub limit : ℕ
+  pub rows : ℕ
   pub last : ℕ
   pub ended : Bool
 
--- what contracts see of these levels under a degree limit
-abbrev pub graded_value : LevelsValue → ℕ → Bool → GradedValue
-graded_value levels limit ended = record { braid = levels.braid; limit = limit; last = levels.last; ended = ended }
+-- what contracts see of these levels under a degree limit and a rows limit
+abbrev pub graded_value : LevelsValue → ℕ → ℕ → Bool → GradedValue
+graded_value levels limit rows ended = record { braid = levels.braid; limit = limit; rows = rows; last = levels.last; ended = ended }
 
 -- what holds between calls
 pub record IsGraded (g : GradedValue) : Type 0 where
   pub braid : IsBraid g.braid
   pub most : g.limit ≤ MOST_DEGREES
-  pub finished : Contains (finished_degrees g.braid g.limit) g.last
+  pub some_rows : 1 ≤ g.rows
+  pub few_rows : g.rows ≤ MOST_ROWS
+  pub finished : Contains (finished_degrees g.braid g.limit g.rows) g.last
   pub going : g.ended ≡ false → is_empty_degree is_in_kernel g.braid g.last ≡ false
 
+-- what is known of degree m: what stops it, or its products
+abbrev pub IsAhead : BraidValue → ℕ → ℕ → ℕ → Ahead → Type 0
+IsAhead braid limit rows m (ahead.Stopped stop) = stops_at braid limit rows m ≡ Some stop
+IsAhead braid limit rows m (ahead.Open ps) = (stops_at braid limit rows m ≡ None) × (ps ≡ products braid m)
+
+-- the end after a finished degree, by whether it is empty and by what is known of the next
+abbrev pub end_known : Bool → Ahead → Option End
+end_known true next = Some Closed
+end_known false (ahead.Stopped stop) = Some (Stopped stop)
+end_known false (ahead.Open ps) = None
+
 -- degree 0 is finished
-abbrev pub first_degree : BraidValue → ℕ → GradedValue
-first_degree braid limit = record { braid = braid; limit = limit; last = 0; ended = false }
+abbrev pub first_degree : BraidValue → ℕ → ℕ → GradedValue
+first_degree braid limit rows = record { braid = braid; limit = limit; rows = rows; last = 0; ended = false }

@@ -5,11 +5,11 @@ use Rattle.nichols_braid.specs.declared.TheConstants.{MOST_DEGREES}
 use Rattle.nichols_braid.specs.Braid.{BraidValue}
 use Rattle.nichols_braid.specs.Kernel.{is_in_kernel}
 use Rattle.nichols_braid.specs.End.{is_empty_degree}
-use Rattle.nichols_graded.specs.Ends.{finished_degrees, limit_stops, end_reached}
+use Rattle.nichols_graded.specs.Ends.{finished_degrees, stops_at, end_reached}
 use Rattle.nichols_graded.specs.declared.ends.End.TheVariants.{Closed, Stopped}
 
 -- after a finished degree the end is reached exactly where it is empty, and the algebra is closed, or where something stops the next one
 abbrev pub EndIsReached : Type 0
 EndIsReached =
-    (braid : BraidValue) (limit m : ℕ) → limit ≤ MOST_DEGREES → Contains (finished_degrees braid limit) m →
-    end_reached braid limit m ≡ (if is_empty_degree is_in_kernel braid m then Some Closed else option_map Stopped (limit_stops limit (suc m)))
+    (braid : BraidValue) (limit rows_limit m : ℕ) → limit ≤ MOST_DEGREES → Contains (finished_degrees braid limit rows_limit) m →
+    end_reached braid limit rows_limit m ≡ (if is_empty_degree is_in_kernel braid m then Some Closed else option_map Stopped (stops_at braid limit rows_limit (suc m)))

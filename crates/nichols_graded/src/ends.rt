@@ -5,6 +5,17 @@
 pub enum Stop {
     /// The next degree is beyond the degree limit.
     DegreeLimit,
+    /// The next degree, which is named, has more products than [`nichols_braid::MOST_PRODUCTS`].
+    Wide(u32),
+    /// In the next degree a product has more candidates than the rows limit.
+    Rows {
+        /// The degree.
+        degree: u32,
+        /// The number of the first such product in its degree, from 1 on.
+        product: u32,
+        /// The number of its candidates.
+        count: u64,
+    },
 }
 
 /// The end of the degrees.

@@ -1,17 +1,19 @@
 //! Graded algebras.
 
-ghost use Rattle.std.specs.Prelude.{◌≡◌, ◌≤◌, ◌<◌, ◌+◌, ◌^◌, IfOk, OnOk, OnErr, None, false, is_some};
-ghost use Rattle.std.specs.List.{Contains};
-ghost use Rattle.nichols_braid.specs.declared.TheConstants.{MOST_DEGREES};
+ghost use Rattle.std.specs.Prelude.{◌≡◌, ◌≤◌, ◌<◌, ◌+◌, ◌^◌, IfOk, OnOk, OnErr, None, Some, false, true, suc, is_some, option_map, sum};
+ghost use Rattle.nichols_braid.specs.declared.TheConstants.{MOST_DEGREES, MOST_ROWS};
 ghost use Rattle.nichols_braid.specs.Kernel.{is_in_kernel};
 ghost use Rattle.nichols_braid.specs.Least.{basis, relations};
-ghost use Rattle.nichols_braid.specs.End.{dimension};
-ghost use Rattle.nichols_graded.specs.Ends.{finished_degrees, end_reached};
-ghost use Rattle.nichols_graded.specs.Graded.{first_degree, IsGraded};
+ghost use Rattle.nichols_braid.specs.End.{dimension, is_empty_degree};
+ghost use Rattle.nichols_graded.specs.Ends.{dimensions_up_to, end_reached};
+ghost use Rattle.nichols_graded.specs.Factors.{factors_of};
+ghost use Rattle.nichols_graded.specs.Graded.{end_known, first_degree, IsGraded};
 
-use crate::ends::{Advance, End, Stop};
+use crate::ahead::{Ahead, look_ahead};
+use crate::ends::{Advance, End};
+use crate::factors::factors_of;
 use nichols_block::{Levels, make_degree};
-use nichols_braid::Braid;
+use nichols_braid::{Braid, Products};
 use nichols_words::{Relation, Word};
 use std::alloc::{AllocError, Global};
 use std::marker::Model;
@@ -21,61 +23,95 @@ use std::marker::Model;
 pub struct Graded {
     levels: Levels,
     degree_limit: u32,
+    rows_limit: u32,
+    ahead: Ahead,
     ended: bool,
 }
 
 impl Model for Graded {
-    ghost use Rattle.nichols_graded.specs.Graded.{GradedValue, IsGraded, graded_value};
+    ghost use Rattle.std.specs.Prelude.{◌≡◌, suc, false};
+    ghost use Rattle.nichols_graded.specs.Graded.{GradedValue, IsAhead, IsGraded, graded_value};
 
     ghost Value = { GradedValue };
 
-    ghost view = { λ g. graded_value g.levels g.degree_limit g.ended };
+    ghost view = { λ g. graded_value g.levels g.degree_limit g.rows_limit g.ended };
 
-    ghost invariant = { λ g. IsGraded (graded_value g.levels g.degree_limit g.ended) };
+    ghost invariant = { λ g. IsGraded (graded_value g.levels g.degree_limit g.rows_limit g.ended)
+        × (g.ended ≡ false → IsAhead g.levels.braid g.degree_limit g.rows_limit (suc g.levels.last) g.ahead) };
 }
 
 impl Graded {
-    /// The algebra of a braid with degree 0 finished; the degree limit is at most 60.
-    pub fn start(alloc: Global, braid: Braid, degree_limit: u32) -> Result<Graded, AllocError>
-        requires { degree_limit ≤ MOST_DEGREES }
-        ensures { IfOk result (λ g. g ≡ first_degree braid degree_limit) }
+    /// The algebra of a braid with degree 0 finished; the degree limit is at most 60, and the rows limit 1 to `nichols_braid::MOST_ROWS`.
+    pub fn start(
+        alloc: Global,
+        braid: Braid,
+        degree_limit: u32,
+        rows_limit: u32,
+    ) -> Result<Graded, AllocError>
+        requires degrees { degree_limit ≤ MOST_DEGREES }
+        requires some_rows { 1 ≤ rows_limit }
+        requires few_rows { rows_limit ≤ MOST_ROWS }
+        ensures { IfOk result (λ g. g ≡ first_degree braid degree_limit rows_limit) }
     {
         let _field = braid.field();
         let levels = Levels::start(alloc, braid)?;
+        let products = Products::first(alloc, levels.braid())?;
+        let ahead = look_ahead(
+            alloc,
+            levels.braid(),
+            levels.rule(0),
+            &products,
+            degree_limit,
+            rows_limit,
+        )?;
         Ok(Graded {
             levels,
             degree_limit,
+            rows_limit,
+            ahead,
             ended: false,
         })
     }
 
-    /// Finishes the next degree, where the degree limit allows it, and says whether the end is reached.
+    /// Finishes the next degree, where nothing stops it, and says whether the end is reached.
     ///
-    /// The end is given in the call in which the last degree is finished; under the limit 0, where degree 0 is the only one,
-    /// in the first call. After an error the algebra is as it was, and the call may be made again.
+    /// The end is given in the call in which the last degree is finished; where degree 1 is stopped, so that degree 0 is the only
+    /// one, in the first call. After an error the algebra is as it was, and the call may be made again.
     pub fn advance(&mut self, alloc: Global) -> Result<Advance, AllocError>
         requires { self.old.ended ≡ false }
         ensures braid { OnOk result (self.new.braid ≡ self.old.braid) }
         ensures limit { OnOk result (self.new.limit ≡ self.old.limit) }
+        ensures rows { OnOk result (self.new.rows ≡ self.old.rows) }
         ensures finished { IfOk result (λ a. self.new.last ≡ self.old.last + a.finished) }
         ensures one { IfOk result (λ a. a.finished ≤ 1) }
         ensures further { IfOk result (λ a. a.end ≡ None → a.finished ≡ 1) }
-        ensures end { IfOk result (λ a. a.end ≡ end_reached self.new.braid self.new.limit self.new.last) }
+        ensures end { IfOk result (λ a. a.end ≡ end_reached self.new.braid self.new.limit self.new.rows self.new.last) }
         ensures ended { IfOk result (λ a. self.new.ended ≡ is_some a.end) }
         ensures kept { OnErr result (self.new ≡ self.old) }
     {
+        let products = match &self.ahead {
+            Ahead::Open(products) => products,
+            Ahead::Stopped(stop) => {
+                let end = Some(End::Stopped(*stop));
+                self.ended = true;
+                return Ok(Advance { finished: 0, end });
+            }
+        };
+        let braid = self.levels.braid();
         let last = self.levels.last();
-        if last == self.degree_limit {
-            self.ended = true;
-            return Ok(Advance {
-                finished: 0,
-                end: Some(End::Stopped(Stop::DegreeLimit)),
-            });
-        }
-        let rule = make_degree(alloc, self.levels.braid(), self.levels.rule(last))?;
+        let rule = make_degree(alloc, braid, self.levels.rule(last))?;
+        let ahead = look_ahead(
+            alloc,
+            braid,
+            &rule,
+            products,
+            self.degree_limit,
+            self.rows_limit,
+        )?;
         self.levels.push(rule)?;
-        let end = end_of_levels(&self.levels, self.degree_limit);
+        let end = end_of_levels(&self.levels, &ahead);
         self.ended = end.is_some();
+        self.ahead = ahead;
         Ok(Advance { finished: 1, end })
     }
 
@@ -84,6 +120,13 @@ impl Graded {
         ensures { result ≡ self.now.ended }
     {
         self.ended
+    }
+
+    /// Whether the last finished degree is empty, and with it all later ones.
+    pub fn closed(&self) -> bool
+        ensures { result ≡ is_empty_degree is_in_kernel self.now.braid self.now.last }
+    {
+        self.levels.closed()
     }
 
     /// The finished degrees.
@@ -104,6 +147,29 @@ impl Graded {
         self.basis(m).len() as u64
     }
 
+    /// The dimensions of the finished degrees, from degree 0 on.
+    pub fn dimensions(&self, alloc: Global) -> Result<Vec<u64>, AllocError>
+        ensures dimensions { IfOk result (λ r. r.items ≡ dimensions_up_to self.now.braid self.now.last) }
+        ensures sum { IfOk result (λ r. sum r.items < 2 ^ 64) }
+    {
+        let mut dimensions = Vec::new(alloc);
+        for m in 0..self.levels.last() + 1 {
+            dimensions.push(self.dimension(m))?;
+        }
+        Ok(dimensions)
+    }
+
+    /// The factors of a closed algebra, falling: numbers k such that the polynomials `1 + t + .. + t^(k-1)` multiply to the one
+    /// that has the dimensions as coefficients. `None` where they are not found.
+    pub fn factors(&self, alloc: Global) -> Result<Option<Vec<u32>>, AllocError>
+        requires { is_empty_degree is_in_kernel self.now.braid self.now.last ≡ true }
+        ensures { IfOk result (λ r. option_map (λ v. v.items) r ≡ factors_of (dimensions_up_to self.now.braid self.now.last)) }
+    {
+        let _levels = self.levels();
+        let dimensions = self.dimensions(alloc)?;
+        factors_of(alloc, dimensions.as_slice())
+    }
+
     /// The least words of a finished degree, rising.
     pub fn basis(&self, m: u32) -> &[Word]
         requires { m ≤ self.now.last }
@@ -121,18 +187,16 @@ impl Graded {
     }
 }
 
-/// The end that the levels have reached under a degree limit.
-fn end_of_levels(levels: &Levels, degree_limit: u32) -> Option<End>
-    requires limit { degree_limit ≤ MOST_DEGREES }
-    requires finished { Contains (finished_degrees levels.now.braid degree_limit) levels.now.last }
-    ensures { result ≡ end_reached levels.now.braid degree_limit levels.now.last }
+/// The end that the levels have reached, by what is known of the degree after the last one.
+fn end_of_levels(levels: &Levels, ahead: &Ahead) -> Option<End>
+    ensures { result ≡ end_known (is_empty_degree is_in_kernel levels.now.braid levels.now.last) ahead.now }
 {
     let _field = levels.braid().field();
     if levels.closed() {
         return Some(End::Closed);
     }
-    if degree_limit <= levels.last() {
-        return Some(End::Stopped(Stop::DegreeLimit));
+    match ahead {
+        Ahead::Stopped(stop) => Some(End::Stopped(*stop)),
+        Ahead::Open(_) => None,
     }
-    None
 }

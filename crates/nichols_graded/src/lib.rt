@@ -3,7 +3,10 @@
 //! `AllocError` says that there was no memory.
 #![tactic(auto)]
 
+mod ahead;
+mod counts;
 mod ends;
+mod factors;
 mod graded;
 pub mod laws;
 

@@ -1,24 +1,56 @@
 use super::*;
-use nichols_braid::{Braid, Scalars};
+use crate::factors::factors_of;
+use nichols_braid::{Braid, MOST_ROWS, Scalars};
 use nichols_field::Field;
 use std::alloc::Global;
 use std::test::Fail;
 
+/// The braid of a rack over p elements with one scalar at all places.
+fn constant(alloc: Global, p: i64, rack: &[Vec<i64>], scalar: i64) -> Result<Braid, Fail> {
+    let field = Field::new(p).map_err(|_| "no field")?;
+    let braid = Braid::new(alloc, field, rack, &Scalars::Constant(scalar)).map_err(|_| "no braid")?;
+    Ok(braid)
+}
+
 /// One letter with the scalar 2 over seven elements: the third power is zero.
 fn one_letter(alloc: Global) -> Result<Braid, Fail> {
-    let field = Field::new(7).map_err(|_| "no field")?;
     let mut rack = Vec::new(alloc);
     rack.push([1].as_slice().to_vec(alloc)?)?;
-    let braid = Braid::new(alloc, field, rack.as_slice(), &Scalars::Constant(2)).map_err(
-        |_| "no braid",
-    )?;
-    Ok(braid)
+    constant(alloc, 7, rack.as_slice(), 2)
+}
+
+/// Two letters that act alike, with the scalar 1 over 101 elements.
+fn two_letters(alloc: Global) -> Result<Braid, Fail> {
+    let mut rack = Vec::new(alloc);
+    for _ in 0..2 {
+        rack.push([1, 2].as_slice().to_vec(alloc)?)?;
+    }
+    constant(alloc, 101, rack.as_slice(), 1)
+}
+
+/// Three transpositions in each of eight groups; letters of different groups don't act on each other.
+fn eight_groups(alloc: Global) -> Result<Braid, Fail> {
+    let group = [[1, 3, 2], [3, 2, 1], [2, 1, 3]];
+    let mut rack = Vec::new(alloc);
+    for i in 0..24usize {
+        let mut row = Vec::new(alloc);
+        for j in 0..24usize {
+            let image = if i / 3 == j / 3 {
+                group[i % 3][j % 3] + i as i64 / 3 * 3
+            } else {
+                j as i64 + 1
+            };
+            row.push(image)?;
+        }
+        rack.push(row)?;
+    }
+    constant(alloc, 101, rack.as_slice(), -1)
 }
 
 #[test]
 fn degrees_of_one_letter(rt: HostRuntime) -> Result<(), Fail> {
     let alloc = rt.alloc();
-    let mut graded = Graded::start(alloc, one_letter(alloc)?, 12)?;
+    let mut graded = Graded::start(alloc, one_letter(alloc)?, 12, 1_024)?;
     for (dimension, relations, end) in [(1, 0, None), (1, 0, None), (0, 1, Some(End::Closed))] {
         if graded.ended() {
             return Err("ended early".into());
@@ -32,22 +64,119 @@ fn degrees_of_one_letter(rt: HostRuntime) -> Result<(), Fail> {
         assert_eq!(rt; graded.relations(last).len(), relations);
     }
     assert!(rt; graded.ended());
+    if !graded.closed() {
+        return Err("not closed".into());
+    }
+    let Some(factors) = graded.factors(alloc)? else {
+        return Err("no factors".into());
+    };
+    assert!(rt; factors.as_slice() == [3].as_slice());
     Ok(())
 }
 
-/// Under the limit 0 no further degree is finished, and under the limit 1 one is.
-#[test]
-fn degree_limits(rt: HostRuntime) -> Result<(), Fail> {
-    let alloc = rt.alloc();
-    for (limit, finished) in [(0, 0), (1, 1)] {
-        let mut graded = Graded::start(alloc, one_letter(alloc)?, limit)?;
+/// Makes degrees until the end, and compares the end and the dimensions.
+fn ends(
+    alloc: Global,
+    braid: Braid,
+    limits: (u32, u32),
+    dimensions: &[u64],
+    end: End,
+) -> Result<(), Fail> {
+    if limits.0 > 60 || limits.1 < 1 || limits.1 > MOST_ROWS {
+        return Err("limits out of range".into());
+    }
+    let mut graded = Graded::start(alloc, braid, limits.0, limits.1)?;
+    for _ in 0..61 {
         if graded.ended() {
-            return Err("ended early".into());
+            break;
         }
         let advance = graded.advance(alloc)?;
-        assert_eq!(rt; advance.finished, finished);
-        assert_eq!(rt; advance.end, Some(End::Stopped(Stop::DegreeLimit)));
-        assert!(rt; graded.ended());
+        if advance.end.is_some() && advance.end != Some(end) {
+            return Err("another end".into());
+        }
+    }
+    if !graded.ended() {
+        return Err("no end".into());
+    }
+    if graded.dimensions(alloc)?.as_slice() != dimensions {
+        return Err("other dimensions".into());
+    }
+    Ok(())
+}
+
+/// The degree limit, which may stop degree 1, and the rows limit, which is passed by a degree with exactly so many rows.
+#[test]
+fn limits(rt: HostRuntime) -> Result<(), Fail> {
+    let alloc = rt.alloc();
+    let degrees = End::Stopped(Stop::DegreeLimit);
+    let rows = |degree, count| End::Stopped(Stop::Rows {
+        degree,
+        product: 1,
+        count,
+    });
+    ends(alloc, one_letter(alloc)?, (0, 1_024), &[1], degrees)?;
+    ends(alloc, one_letter(alloc)?, (1, 1_024), &[1, 1], degrees)?;
+    ends(alloc, two_letters(alloc)?, (12, 1), &[1], rows(1, 2))?;
+    ends(alloc, two_letters(alloc)?, (12, 5), &[1, 2, 3], rows(3, 6))?;
+    ends(
+        alloc,
+        two_letters(alloc)?,
+        (12, 6),
+        &[1, 2, 3, 4],
+        rows(4, 8),
+    )
+}
+
+/// Degree 4 has more than 5,040 products.
+#[test]
+fn wide(rt: HostRuntime) -> Result<(), Fail> {
+    let alloc = rt.alloc();
+    let braid = eight_groups(alloc)?;
+    ends(
+        alloc,
+        braid,
+        (12, 1_024),
+        &[1, 24, 284, 2_208],
+        End::Stopped(Stop::Wide(4)),
+    )
+}
+
+/// The dimensions of closed algebras with their factors, none of which means that there are none.
+const FACTORS: [(&[u64], Option<&[u32]>); 12] = [
+    (&[1, 3, 4, 3, 1, 0], Some(&[3, 2, 2])),
+    (&[1, 1, 1, 0], Some(&[3])),
+    (&[1, 1, 1, 1, 1, 0], Some(&[5])),
+    (&[1, 2, 2, 2, 1, 0], Some(&[4, 2])),
+    (&[1, 2, 1, 0], Some(&[2, 2])),
+    (&[1, 0], Some(&[])),
+    (&[1, 3, 1, 0], None),
+    (&[1, 0, 0, 1, 0], None),
+    (&[1, 4, 8, 11, 12, 12, 11, 8, 4, 1, 0], Some(&[6, 3, 2, 2])),
+    (&[1, 4, 8, 10, 8, 4, 1, 0], Some(&[3, 3, 2, 2])),
+    (
+        &[1, 6, 19, 42, 71, 96, 106, 96, 71, 42, 19, 6, 1, 0],
+        Some(&[4, 4, 3, 3, 2, 2]),
+    ),
+    (
+        &[
+            1, 5, 15, 35, 66, 105, 145, 175, 186, 175, 145, 105, 66, 35, 15, 5, 1, 0,
+        ],
+        Some(&[5, 4, 4, 4, 4]),
+    ),
+];
+
+#[test]
+fn factors(rt: HostRuntime) -> Result<(), Fail> {
+    let alloc = rt.alloc();
+    for (dimensions, factors) in FACTORS {
+        if dimensions.len() > 61 {
+            return Err("too long".into());
+        }
+        match (factors_of(alloc, dimensions)?, factors) {
+            (None, None) => {}
+            (Some(found), Some(wanted)) => assert!(rt; found.as_slice() == wanted),
+            _ => return Err("factors where there are none, or none where there are".into()),
+        }
     }
     Ok(())
 }

@@ -6,5 +6,5 @@ use Rattle.nichols_graded.proofs.graded.Graded.relations.Goals as goal
 
 pub returns : goal.returns
 returns c =
-    let rule = rule_relations c.self.inside.levels.braid c.self.invariant.braid c.args.m c.rule.result.now c.rule.ensures.rule in
+    let rule = rule_relations c.self.inside.levels.braid c.self.invariant.0.braid c.args.m c.rule.result.now c.rule.ensures.rule in
     c.as_slice.ensures.value ∙ ap (λ r. r.table) c.behind-self.view_is ∙ rule ∙ ap (λ g. relations is_in_kernel g.braid c.args.m) c.self.view_is

@@ -1,0 +1,35 @@
+-- The first product of too many rows.
+use Rattle.std.proofs.Common.{◌≡◌, ℕ, zero, suc, ◌+◌, ◌<◌, ◌≤◌, true, false, cond, List, [], ◌∷◌, length, drop, get_or, refl, sym, ◌∙◌, ap, arith, nat_lt}
+use Rattle.std.specs.Prelude.{None, Some}
+use Rattle.std.proofs.Math.Seq.{drop-cons}
+use Rattle.std.proofs.lemmas.Bool.Decides.{nat_tests}
+use Rattle.nichols_graded.specs.declared.ends.Stop.TheVariants.{Rows}
+use Rattle.nichols_graded.specs.Ends.{rows_stop}
+
+one_row : (limit m k : ℕ) (counts : List ℕ) → k < length counts →
+    rows_stop limit m (suc k) (drop k counts) ≡ cond (nat_lt limit (get_or counts k 0)) (Some (Rows m (suc k) (get_or counts k 0))) (rows_stop limit m (suc (suc k)) (drop (suc k) counts))
+unfolding rows_stop
+one_row limit m k counts less = ap (rows_stop limit m (suc k)) (drop-cons counts k 0 less)
+
+pub row_over : (limit m k number : ℕ) (counts : List ℕ) → k < length counts → limit < get_or counts k 0 → number ≡ suc k → rows_stop limit m (suc k) (drop k counts) ≡ Some (Rows m number (get_or counts k 0))
+row_over limit m k number counts less over is =
+    one_row limit m k counts less
+    ∙ ap (λ b. cond b (Some (Rows m (suc k) (get_or counts k 0))) (rows_stop limit m (suc (suc k)) (drop (suc k) counts))) (let t : nat_lt limit (get_or counts k 0) ≡ true = grind (arith, nat_tests) in t)
+    ∙ ap (λ n. Some (Rows m n (get_or counts k 0))) (sym is)
+
+pub row_within : (limit m k : ℕ) (counts : List ℕ) → k < length counts → get_or counts k 0 ≤ limit → rows_stop limit m (suc k) (drop k counts) ≡ rows_stop limit m (suc (k + 1)) (drop (k + 1) counts)
+row_within limit m k counts less few =
+    let next : suc k ≡ k + 1 = omega arith in
+    one_row limit m k counts less
+    ∙ ap (λ b. cond b (Some (Rows m (suc k) (get_or counts k 0))) (rows_stop limit m (suc (suc k)) (drop (suc k) counts))) (let t : nat_lt limit (get_or counts k 0) ≡ false = grind (arith, nat_tests) in t)
+    ∙ ap (λ n. rows_stop limit m (suc n) (drop n counts)) next
+
+pub rows_end : (limit m k : ℕ) (counts : List ℕ) → length counts ≤ k → rows_stop limit m (suc k) (drop k counts) ≡ None
+unfolding rows_stop
+rows_end limit m k counts most = ap (rows_stop limit m (suc k)) (drop_all k counts most)
+  where
+    drop_all : (n : ℕ) (ns : List ℕ) → length ns ≤ n → drop n ns ≡ []
+    drop_all zero [] h = refl
+    drop_all zero (x ∷ ns) h = absurd (omega arith)
+    drop_all (suc n) [] h = refl
+    drop_all (suc n) (x ∷ ns) h = drop_all n ns (omega arith)
