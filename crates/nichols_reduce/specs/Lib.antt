@@ -1,0 +1,7 @@
+-- what public contracts cite
+pub mod Normal
+-- the statements of the laws
+pub mod Laws
+-- what the crate's own functions cite
+pub mod Sums
+pub mod Forms

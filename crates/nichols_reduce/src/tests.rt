@@ -1,0 +1,241 @@
+ghost use Rattle.std.specs.Prelude.{IfOk, IfSome};
+ghost use Rattle.nichols_tensor.specs.Combination.{AllElements};
+ghost use Rattle.nichols_tensor.specs.Words.{IsOver, IsWordOver};
+
+use super::*;
+use nichols_block::{Levels, make_degree};
+use nichols_braid::{Braid, MOST_DEGREES, Scalars};
+use nichols_field::Field;
+use nichols_tensor::LETTER_LIMIT;
+use nichols_words::{Comb, Word};
+use std::alloc::Global;
+use std::test::Fail;
+
+const THREE: [&[i64]; 3] = [&[1, 3, 2], &[3, 2, 1], &[2, 1, 3]];
+
+/// The rack of the tetrahedron.
+const FOUR: [&[i64]; 4] = [&[1, 4, 2, 3], &[3, 2, 4, 1], &[4, 1, 3, 2], &[2, 3, 1, 4]];
+
+/// The algebra of a rack over F_101 with the scalar -1, up to a degree, or to where it closes.
+fn levels_up_to(alloc: Global, rack: &[&[i64]], degree: u32) -> Result<Levels, Fail> {
+    let field = Field::new(101).map_err(|_| "no field")?;
+    let mut rows = Vec::new(alloc);
+    for row in rack {
+        rows.push(row.to_vec(alloc)?)?;
+    }
+    let braid = Braid::new(alloc, field, rows.as_slice(), &Scalars::Constant(-1)).map_err(
+        |_| "refused",
+    )?;
+    let mut levels = Levels::start(alloc, braid)?;
+    for _step in 0..degree {
+        let last = levels.last();
+        if last < MOST_DEGREES && !levels.closed() {
+            let next = make_degree(alloc, levels.braid(), levels.rule(last))?;
+            levels.push(next)?;
+        }
+    }
+    Ok(levels)
+}
+
+/// The word that a text spells, as "3.1.2", or "" for the empty word. What is no letter, or has no room, is left out.
+fn word(text: &str) -> Word {
+    let mut word = Word::empty();
+    for letter in text.split('.') {
+        if let Ok(letter) = letter.parse() {
+            if 1 <= letter && letter <= LETTER_LIMIT {
+                let _put = word.push(letter);
+            }
+        }
+    }
+    word
+}
+
+/// The word that a text spells, where each of its letters is one of the braid.
+fn word_over(braid: &Braid, text: &str) -> Option<Word>
+    ensures { IfSome result (IsWordOver braid.now.letters) }
+{
+    let _field = braid.field();
+    let mut found = Word::empty();
+    for &letter in word(text).letters() {
+        if letter < 1 || letter > braid.letters() || !found.push(letter) {
+            return None;
+        }
+    }
+    Some(found)
+}
+
+type Listed = &'static [(&'static str, i64)];
+
+/// A sum, and a multiple of a word more, where each letter is one of the braid.
+fn with_term(
+    alloc: Global,
+    braid: &Braid,
+    sum: &Comb,
+    text: &str,
+    coefficient: i64,
+) -> Result<Comb, Fail>
+    requires letters { IsOver braid.now.letters sum.now }
+    requires elements { AllElements braid.now.field sum.now }
+    ensures letters { IfOk result (IsOver braid.now.letters) }
+    ensures elements { IfOk result (AllElements braid.now.field) }
+{
+    let field = braid.field();
+    let word = word_over(braid, text).ok_or("no word")?;
+    let single = Comb::single(alloc, field, word, field.from_i64(coefficient))?;
+    let longer = sum.add_scaled(alloc, field, field.from_i64(1), &single)?;
+    Ok(longer)
+}
+
+/// The combination of these terms, where each letter is one of the braid.
+fn comb_over(alloc: Global, braid: &Braid, listed: &[(&str, i64)]) -> Result<Comb, Fail>
+    ensures letters { IfOk result (IsOver braid.now.letters) }
+    ensures elements { IfOk result (AllElements braid.now.field) }
+{
+    let _field = braid.field();
+    let mut sum = Comb::zero(alloc);
+    for (text, coefficient) in listed {
+        sum = with_term(alloc, braid, &sum, text, *coefficient)?;
+    }
+    Ok(sum)
+}
+
+/// What is wanted: the terms of the form in order, or the last degree.
+#[derive(Clone, Copy)]
+enum Want {
+    Terms(&'static [(&'static str, u32)]),
+    Last(u32),
+}
+
+fn has_terms(comb: &Comb, expected: &[(&str, u32)]) -> bool {
+    let terms = comb.terms();
+    terms.len() == expected.len()
+        && terms.iter().zip(expected).all(|(term, (text, coefficient))| term.word == word(text)
+            && term.coefficient == *coefficient)
+}
+
+fn is_wanted(found: &Normal, want: Want) -> bool {
+    match (found, want) {
+        (Normal::Form(form), Want::Terms(expected)) => has_terms(form, expected),
+        (Normal::Beyond(last), Want::Last(expected)) => *last == expected,
+        _ => false,
+    }
+}
+
+/// Whether each combination has the answer that stands beside it.
+fn has_answers(alloc: Global, levels: &Levels, rows: &[(Listed, Want)]) -> Result<bool, Fail> {
+    for (listed, want) in rows {
+        let comb = comb_over(alloc, levels.braid(), listed)?;
+        if !is_wanted(&normal(alloc, levels, &comb)?, *want) {
+            return Ok(false);
+        }
+    }
+    Ok(true)
+}
+
+#[test]
+fn three_transpositions_up_to_degree_4(rt: HostRuntime) -> Result<(), Fail> {
+    let alloc = rt.alloc();
+    let levels = levels_up_to(alloc, &THREE, 4)?;
+    assert_eq!(rt; levels.last(), 4);
+    assert!(rt; !levels.closed());
+    let rows: [(Listed, Want); 6] = [
+        (&[("2.1.3.1", 1)], Want::Terms(&[("1.2.1.3", 100)])),
+        (&[("1.2.1.3.1", 1), ("1", 1)], Want::Last(4)),
+        // A long word that cancels is no word of the combination.
+        (
+            &[("1.2.1.3.1", 1), ("2.1.2", 5), ("1.2.1.3.1", -1)],
+            Want::Terms(&[("1.2.1", 5)]),
+        ),
+        (&[], Want::Terms(&[])),
+        (&[("", 7)], Want::Terms(&[("", 7)])),
+        (
+            &[("", 2), ("3.1", 3), ("1.2", 3), ("3", 1), ("2.1.3.1", -1)],
+            Want::Terms(&[("", 2), ("3", 1), ("2.3", 98), ("1.2.1.3", 1)]),
+        ),
+    ];
+    assert!(rt; has_answers(alloc, &levels, &rows)?);
+    Ok(())
+}
+
+#[test]
+fn three_transpositions_up_to_degree_2(rt: HostRuntime) -> Result<(), Fail> {
+    let alloc = rt.alloc();
+    let levels = levels_up_to(alloc, &THREE, 2)?;
+    let rows: [(Listed, Want); 4] = [
+        (&[("1.2.1", 1), ("2.1.2", -1)], Want::Last(2)),
+        (&[("3.1", 1)], Want::Terms(&[("1.2", 100), ("2.3", 100)])),
+        (&[("", 1)], Want::Terms(&[("", 1)])),
+        (&[("1.2.1.3.1.2.1.3.1", 1)], Want::Last(2)),
+    ];
+    assert!(rt; has_answers(alloc, &levels, &rows)?);
+    Ok(())
+}
+
+const SIXTY: &str =
+    "1.2.1.3.1.2.1.3.1.2.1.3.1.2.1.3.1.2.1.3.1.2.1.3.1.2.1.3.1.2.1.3.1.2.1.3.1.2.1.3.1.2.1.3.1.2.1.3.1.2.1.3.1.2.1.3.1.2.1.3";
+
+#[test]
+fn three_transpositions_closed(rt: HostRuntime) -> Result<(), Fail> {
+    let alloc = rt.alloc();
+    let levels = levels_up_to(alloc, &THREE, 12)?;
+    assert!(rt; levels.closed());
+    assert_eq!(rt; word(SIXTY).len(), 60);
+    let rows: [(Listed, Want); 7] = [
+        (&[("1.2.1", 1), ("2.1.2", -1)], Want::Terms(&[])),
+        (&[("3.1", 1)], Want::Terms(&[("1.2", 100), ("2.3", 100)])),
+        (&[("", 1)], Want::Terms(&[("", 1)])),
+        (&[("1.2.1.3.1.2.1.3.1", 1)], Want::Terms(&[])),
+        (&[("1.2.1.3.1", 1)], Want::Terms(&[])),
+        (
+            &[(SIXTY, 1), ("2.1.3.1", 4)],
+            Want::Terms(&[("1.2.1.3", 97)]),
+        ),
+        (&[], Want::Terms(&[])),
+    ];
+    assert!(rt; has_answers(alloc, &levels, &rows)?);
+    Ok(())
+}
+
+/// Forms that were found by elimination on the images of all words under the quantum symmetrizer.
+#[test]
+fn tetrahedron(rt: HostRuntime) -> Result<(), Fail> {
+    let alloc = rt.alloc();
+    let levels = levels_up_to(alloc, &FOUR, 5)?;
+    let rows: [(Listed, Want); 5] = [
+        (
+            &[("4.2.1", 1)],
+            Want::Terms(&[("1.3.4", 100), ("2.1.4", 100), ("2.3.1", 100), ("3.1.2", 1)]),
+        ),
+        (
+            &[("2.4.3.2", 1)],
+            Want::Terms(&[("1.2.1.3", 1), ("2.1.3.4", 1), ("2.3.1.2", 100)]),
+        ),
+        (
+            &[("4.1.3.4.1", 1)],
+            Want::Terms(&[("1.2.1.3.4", 100), ("1.2.3.1.2", 1), ("2.3.1.2.4", 100)]),
+        ),
+        (
+            &[("4.2.1.4.2", 10), ("4.3.2.4.3", 10)],
+            Want::Terms(&[
+                ("1.2.3.1.4", 91),
+                ("1.3.1.2.4", 91),
+                ("2.1.3.1.4", 10),
+                ("2.3.1.2.3", 10),
+                ("3.1.2.3.1", 10),
+                ("3.1.2.3.4", 91),
+            ]),
+        ),
+        (
+            &[("4.1", 1), ("4.1.3", 2)],
+            Want::Terms(&[
+                ("1.2", 100),
+                ("2.4", 100),
+                ("1.2.3", 99),
+                ("2.1.4", 2),
+                ("2.3.1", 2),
+            ]),
+        ),
+    ];
+    assert!(rt; has_answers(alloc, &levels, &rows)?);
+    Ok(())
+}
