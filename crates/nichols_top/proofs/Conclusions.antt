@@ -1,10 +1,10 @@
 -- How a run ends, from how its report was written and ended.
-use Rattle.std.proofs.Common.{◌≡◌, ◌≢◌, ℕ, zero, suc, ◌<◌, ◌≤◌, List, ◌++◌, length, take, refl, sym, ◌∙◌, ap, arith, subst, None, Ok, Err, ◌⊎◌, inl, inr}
-use Rattle.std.specs.Prelude.{Result}
+use Rattle.std.proofs.Common.{◌≡◌, ◌≢◌, ℕ, zero, suc, ◌<◌, ◌≤◌, false, true, List, ◌++◌, length, take, refl, sym, ◌∙◌, ap, arith, subst, None, Ok, Err, ◌⊎◌, inl, inr}
+use Rattle.std.specs.Prelude.{Result, IsErr}
 use Rattle.std.specs.Option.{option_or}
 use Rattle.nichols_io.specs.Counts.{Rose}
 use Rattle.nichols_text.specs.Lines.{read_fault_text, memory_text}
-use Rattle.nichols_top.specs.Command.{command_of}
+use Rattle.nichols_command.specs.Command.{command_of}
 use Rattle.nichols_top.specs.Conclusion.{Concludes, answered, failed, line_failed}
 use Rattle.nichols_top.specs.Conclusion as concluded
 use Rattle.nichols_top.specs.Due.{due}
@@ -85,7 +85,7 @@ write_fault_tells words document (read_fault rose t) e = absurd (omega arith)
 write_fault_tells words document (write_fault owed o f) e = f.rose
 write_fault_tells words document (memory k less t) e = absurd (omega arith)
 
-pub statuses_most : {report : Report} {sr : Type 0} {before after : Seen} {n : ℕ} → EndsAs report sr before after n → n ≤ 7
+pub statuses_most : {report : Report} {sr : Type 0} {before after : Seen} {n : ℕ} → EndsAs report sr before after n → n ≤ 6
 statuses_most {report} (whole t) = code_most report.status
 statuses_most (read_fault rose t) = omega arith
 statuses_most (write_fault owed o f) = omega arith
@@ -115,6 +115,14 @@ answered_status t (failed same) h = inr refl
 answered_status t (concluded.no_memory c) (inl e) = cc
 answered_status t (concluded.no_memory c) (inr e) = cc
 answered_status t (line_failed c) h = inr refl
+
+-- the status of a report that was written whole, or broke off
+pub answered_or_broken : {mid end : Written} {answer : Result Status Break} {s : Status} (t : Status) → Concludes mid end answer s → (answer ≡ Ok t) ⊎ IsErr answer → (code s ≡ code t) ⊎ ((code s ≡ code status.WriteFault) ⊎ (code s ≡ code status.Memory))
+answered_or_broken t (answered s same) (inl e) = let is : s ≡ t = cc in inl (ap code is)
+answered_or_broken t (answered s same) (inr h) = let c : false ≡ true = h in cc
+answered_or_broken t (failed same) h = inr (inl refl)
+answered_or_broken t (concluded.no_memory c) h = inr (inr refl)
+answered_or_broken t (line_failed c) h = inr (inl refl)
 
 -- ---- the sink failed
 

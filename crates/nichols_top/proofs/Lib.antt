@@ -3,5 +3,10 @@ pub mod Finishing
 pub mod Statuses
 pub mod Conclusions
 pub mod Reading
-pub mod Commands
-pub mod Digits
+pub mod CommandReports
+pub mod Numbered
+pub mod EndLines
+pub mod Forms
+pub mod Images
+pub mod LongExpressions
+pub mod Expressions

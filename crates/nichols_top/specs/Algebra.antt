@@ -1,28 +1,44 @@
 -- The report of an algebra, by the quantum symmetrizers of its braid.
-use Rattle.std.specs.Prelude.{ℕ, ◌-◌, false, List, [], ◌∷◌, ◌++◌, map, length, sum, None, Some}
+use Rattle.std.specs.Prelude.{ℕ, ◌-◌, Bool, List, [], ◌∷◌, ◌++◌, map, length, sum, Option, None, Some}
 use Rattle.nichols_braid.specs.Braid.{BraidValue}
 use Rattle.nichols_braid.specs.Kernel.{is_in_kernel}
 use Rattle.nichols_braid.specs.Least.{basis, relations}
 use Rattle.nichols_braid.specs.End.{dimension}
+use Rattle.nichols_command.specs.declared.command.Options.{Options}
 use Rattle.nichols_graded.specs.Ends.{finished_degrees, algebra_end}
+use Rattle.nichols_graded.specs.Factors.{factors_of}
 use Rattle.nichols_graded.specs.declared.ends.End.{End}
 use Rattle.nichols_graded.specs.declared.ends.End.TheVariants as end
 use Rattle.nichols_graded.specs.declared.ends.Stop.TheVariants as stop
 use Rattle.nichols_text.specs.declared.end.EndLine.{EndLine}
-use Rattle.nichols_text.specs.declared.end.EndLine.TheVariants.{Closed, DegreeLimit}
+use Rattle.nichols_text.specs.declared.end.EndLine.TheVariants.{Closed, DegreeLimit, Wide, Rows}
 use Rattle.nichols_text.specs.Pieces.{header_piece, degree_piece, end_piece}
 use Rattle.nichols_top.specs.Report.{Piece, piece, Report}
-use Rattle.nichols_top.specs.declared.algebra.TheConstants.{ROWS_LIMIT}
 use Rattle.nichols_top.specs.declared.status.Status.{Status}
 use Rattle.nichols_top.specs.declared.status.Status.TheVariants.{Complete, Stopped}
 
--- the header
-unfoldable pub header_due : BraidValue → ℕ → Piece
-header_due braid limit = piece (header_piece braid limit ROWS_LIMIT) None
+-- how far an algebra is made, and whether its report is brief; the workers and the window are no part of it
+abbrev pub Scope : Type 0
+Scope = record { degree_limit : ℕ; rows_limit : ℕ; brief : Bool }
 
--- a finished degree, with its least words and its relations
-unfoldable pub degree_due : BraidValue → ℕ → Piece
-degree_due braid m = piece (degree_piece m (basis is_in_kernel braid m) (relations is_in_kernel braid m) false) (Some m)
+abbrev pub scope_of : Options → Scope
+scope_of options = record { degree_limit = options.degree_limit; rows_limit = options.rows_limit; brief = options.brief }
+
+-- the finished degrees
+abbrev pub degrees_in : BraidValue → Scope → List ℕ
+degrees_in braid scope = finished_degrees braid scope.degree_limit scope.rows_limit
+
+-- the end
+abbrev pub end_in : BraidValue → Scope → End
+end_in braid scope = algebra_end braid scope.degree_limit scope.rows_limit
+
+-- the header
+unfoldable pub header_due : BraidValue → Scope → Piece
+header_due braid scope = piece (header_piece braid scope.degree_limit scope.rows_limit) None
+
+-- a finished degree, with its least words and its relations unless the report is brief
+unfoldable pub degree_due : BraidValue → Bool → ℕ → Piece
+degree_due braid brief m = piece (degree_piece m (basis is_in_kernel braid m) (relations is_in_kernel braid m) brief) (Some m)
 
 -- the dimensions of some degrees
 abbrev pub dimensions_of : BraidValue → List ℕ → List ℕ
@@ -32,6 +48,13 @@ dimensions_of braid degrees = map (dimension is_in_kernel braid) degrees
 abbrev pub end_line_of : End → ℕ → List ℕ → EndLine
 end_line_of end.Closed last dimensions = Closed (last - 1) (sum dimensions)
 end_line_of (end.Stopped stop.DegreeLimit) last dimensions = DegreeLimit last
+end_line_of (end.Stopped (stop.Wide m)) last dimensions = Wide m
+end_line_of (end.Stopped (stop.Rows m product count)) last dimensions = Rows m product count
+
+-- the factors of the Hilbert series, where the algebra is closed and it has such factors
+abbrev pub factors_at : End → List ℕ → Option (List ℕ)
+factors_at end.Closed dimensions = factors_of dimensions
+factors_at (end.Stopped s) dimensions = None
 
 -- the status of an end
 abbrev pub status_of : End → Status
@@ -40,14 +63,13 @@ status_of (end.Stopped s) = Stopped
 
 -- the end piece after the finished degrees
 unfoldable pub end_due : BraidValue → End → List ℕ → Piece
-end_due braid e degrees = piece (end_piece (end_line_of e (length degrees - 1) (dimensions_of braid degrees)) (dimensions_of braid degrees)) None
+end_due braid e degrees =
+    piece (end_piece (end_line_of e (length degrees - 1) (dimensions_of braid degrees)) (dimensions_of braid degrees) (factors_at e (dimensions_of braid degrees))) None
 
 -- the header, the finished degrees, and the end
-unfoldable pub pieces_due : BraidValue → ℕ → List Piece
-pieces_due braid limit =
-    header_due braid limit
-    ∷ (map (degree_due braid) (finished_degrees braid limit) ++ end_due braid (algebra_end braid limit) (finished_degrees braid limit) ∷ [])
+unfoldable pub pieces_due : BraidValue → Scope → List Piece
+pieces_due braid scope = header_due braid scope ∷ (map (degree_due braid scope.brief) (degrees_in braid scope) ++ end_due braid (end_in braid scope) (degrees_in braid scope) ∷ [])
 
--- the report of a braid's algebra up to a degree limit
-unfoldable pub algebra_due : BraidValue → ℕ → Report
-algebra_due braid limit = record { pieces = pieces_due braid limit; status = status_of (algebra_end braid limit) }
+-- the report of a braid's algebra
+unfoldable pub algebra_due : BraidValue → Scope → Report
+algebra_due braid scope = record { pieces = pieces_due braid scope; status = status_of (end_in braid scope) }

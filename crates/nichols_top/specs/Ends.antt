@@ -1,10 +1,13 @@
 -- How a run may end.
 use Rattle.std.specs.Prelude.{◌≡◌, ◌⊎◌, ⊤, ℕ, ◌<◌, List, ◌++◌, length, take, Option, None, Some}
+use Rattle.std.specs.Io.KnownBytes.{IsAtEnd}
+use Rattle.nichols_io.specs.Bytes.{IsLonger}
 use Rattle.nichols_text.specs.Lines.{read_fault_text, memory_text}
 use Rattle.nichols_top.specs.Report.{Report, line_report, text_of, last_degree}
 use Rattle.nichols_top.specs.Status.{code}
 use Rattle.nichols_top.specs.Written.{Seen, Took, Failed}
-use Rattle.nichols_top.specs.declared.status.Status.TheVariants.{ReadFault, WriteFault, Memory}
+use Rattle.nichols_top.specs.declared.status.Status.{Status}
+use Rattle.nichols_top.specs.declared.status.Status.TheVariants.{Complete, Refused, Stopped, ReadFault, WriteFault, Memory}
 
 -- the document that a source has left, where it tells its bytes
 abbrev pub IsLeft : Option (List ℕ) → List ℕ → Type 0
@@ -36,3 +39,8 @@ IsComplete report before after status = (status ≡ code Memory) ⊎ ((status �
 pub data IsChosen (due : Report) (source_rose : Type 0) : Report → Type 0 where
   due_report : IsChosen due source_rose due
   fault_report : source_rose → IsChosen due source_rose (line_report read_fault_text ReadFault)
+
+-- what was read for a status: the whole document where the report was written whole, and for a refusal the whole document, or
+-- it was longer than the limit
+abbrev pub IsReadFor : Option (List ℕ) → Option (List ℕ) → ℕ → Status → Type 0
+IsReadFor before after limit status = ((status ≡ Complete) ⊎ (status ≡ Stopped) → IsAtEnd after) × (status ≡ Refused → IsAtEnd after ⊎ IsLonger before limit)

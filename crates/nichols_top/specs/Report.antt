@@ -1,5 +1,5 @@
 -- Reports: their pieces in order, and a status.
-use Rattle.std.specs.Prelude.{ℕ, List, [], ◌∷◌, ◌++◌, Option, None}
+use Rattle.std.specs.Prelude.{ℕ, suc, List, [], ◌∷◌, ◌++◌, Option, None}
 use Rattle.std.specs.Option.{option_or}
 use Rattle.nichols_top.specs.declared.status.Status.{Status}
 
@@ -9,6 +9,11 @@ Piece = record { text : List ℕ; degree : Option ℕ }
 
 abbrev pub piece : List ℕ → Option ℕ → Piece
 piece text degree = record { text = text; degree = degree }
+
+-- a piece for each item, with the items' numbers from k on
+abbrev pub numbered : {X : Type 0} → (ℕ → X → Piece) → ℕ → List X → List Piece
+numbered f k [] = []
+numbered f k (x ∷ xs) = f k x ∷ numbered f (suc k) xs
 
 -- the pieces that are due in order, and the status
 abbrev pub Report : Type 0

@@ -1,34 +1,37 @@
 //! The top call.
 
-ghost use Rattle.std.specs.Prelude.{◌≡◌, ◌≢◌, ◌⊎◌, ◌≤◌, ◌+◌, ℕ, List, map, string_bytes, None, IfSome, IfOk};
+ghost use Rattle.std.specs.Prelude.{◌≡◌, ◌≢◌, ◌⊎◌, ◌≤◌, ◌+◌, ℕ, List, map, string_bytes, None, IfSome, IfOk, IsErr};
 ghost use Rattle.std.specs.Io.KnownBytes.{IsAtEnd};
 ghost use Rattle.nichols_io.specs.Bytes.{ConsumesAtMost, IsLonger};
 ghost use Rattle.nichols_io.specs.Counts.{Rose};
-ghost use Rattle.nichols_input.specs.Refusal.{refusal_of};
-ghost use Rattle.nichols_top.specs.Command.{command_of, IsAccepted, read_limit};
-ghost use Rattle.nichols_top.specs.Due.{due, command_due, refusal_due};
-ghost use Rattle.nichols_top.specs.Ends.{IsLeft, EndsAs, IsComplete, IsChosen};
-ghost use Rattle.nichols_top.specs.Report.{Report, line_report};
+ghost use Rattle.nichols_command.specs.Command.{command_of};
+ghost use Rattle.nichols_top.specs.Due.{due};
+ghost use Rattle.nichols_top.specs.Ends.{IsLeft, EndsAs, IsComplete, IsChosen, IsReadFor};
+ghost use Rattle.nichols_top.specs.Input.{document_limit, read_limit};
+ghost use Rattle.nichols_top.specs.Report.{Report};
 ghost use Rattle.nichols_top.specs.Status.{code};
 ghost use Rattle.nichols_top.specs.Written.{IsStopped, seen, written, Writes};
 
-use crate::algebra::put_algebra;
-use crate::command::{Command, DOCUMENT_LIMIT, command_of};
+use crate::commands::put_command;
+use crate::line::{put_line, put_refusal};
 use crate::status::Status;
 use crate::writer::{Break, Writer};
-use nichols_input::{InputFault, read_braid};
+use nichols_command::{Command, command_of};
 use nichols_io::{ReadFault, Sink, Source, read_all};
-use nichols_text::{not_built_line, read_fault_line, refusal_text, usage_line};
+use nichols_text::{Refusal, read_fault_line, usage_line};
 use std::alloc::Global;
 use std::thread::Threads;
 
-/// Reads a document from the source, writes its report to the sink, and answers the status.
+/// The most bytes of a document.
+pub(crate) const DOCUMENT_LIMIT: usize = 1_048_576;
+
+/// Writes the report of a command to the sink, for the document that it reads from the source, and answers the status.
 ///
-/// The words are those behind the program's name. The statuses: 0, the algebra closed and the whole report was taken;
-/// 1, the words aren't a command; 2, the document is refused; 3, the degree limit stopped the algebra, and the whole
-/// report was taken; 4, the source failed; 5, the sink failed; 6, there was no memory; 7, the document isn't built into a
-/// braid. What was written is one line after 1, 2, 4 and 7; after 6 the pieces that were done, and the memory line;
-/// after 5 a part of what else would have been written.
+/// The words are those behind the program's name. The statuses: 0, the algebra closed, or the command makes none, and the
+/// whole report was taken; 1, the words aren't a command; 2, the document is refused; 3, a limit stopped the algebra, and
+/// the whole report was taken; 4, the source failed; 5, the sink failed; 6, there was no memory. What was written is one
+/// line after 1, 2 and 4; after 6 the pieces that were done, and the memory line; after 5 a part of what else would have
+/// been written.
 pub fn run<R: Threads + Sync, S: Source, K: Sink>(
     _rt: &R,
     alloc: Global,
@@ -47,11 +50,11 @@ pub fn run<R: Threads + Sync, S: Source, K: Sink>(
         × IsComplete (due (map string_bytes words.now) document) (seen K.taken K.faults sink.old) (seen K.taken K.faults sink.new) result }
 
     // What a status tells.
-    ensures usage { command_of (map string_bytes words.now) ≡ None → (result ≡ code Status.Usage) ⊎ (result ≡ code Status.WriteFault) }
+    ensures usage { command_of (map string_bytes words.now) ≡ None → (result ≡ code Status.Usage) ⊎ ((result ≡ code Status.WriteFault) ⊎ (result ≡ code Status.Memory)) }
     ensures usage_only { result ≡ code Status.Usage → command_of (map string_bytes words.now) ≡ None }
     ensures read_fault { result ≡ code Status.ReadFault → Rose (S.faults source.old) (S.faults source.new) }
     ensures write_fault { result ≡ code Status.WriteFault → Rose (K.faults sink.old) (K.faults sink.new) }
-    ensures statuses { result ≤ 7 }
+    ensures statuses { result ≤ 6 }
 
     // Nothing is written after a write that failed.
     ensures stopped { result ≡ code Status.WriteFault → IsStopped K.taken K.faults sink.old sink.new }
@@ -83,72 +86,33 @@ fn put_report<S: Source, K: Sink>(
     ensures report { (document : List ℕ) × IsLeft (S.left source.old) document
         × ((report : Report) × IsChosen (due (map string_bytes words.now) document) (Rose (S.faults source.old) (S.faults source.new)) report
         × Writes report (written K.taken K.faults out.old) (written K.taken K.faults out.new) result) }
-    ensures usage { command_of (map string_bytes words.now) ≡ None → (result ≡ Ok Status.Usage) ⊎ (result ≡ Err Break.Fault) }
+    ensures usage { command_of (map string_bytes words.now) ≡ None → (result ≡ Ok Status.Usage) ⊎ IsErr result }
     ensures source_kept { ((result ≡ Ok Status.ReadFault) ⊎ (result ≡ Err Break.Fault)) ⊎ (S.faults source.new ≡ S.faults source.old) }
     ensures unread { read_limit (map string_bytes words.now) ≡ None → source.new ≡ source.old }
     ensures taken { IfSome (read_limit (map string_bytes words.now)) (λ limit. ConsumesAtMost (S.left source.old) (S.left source.new) (limit + 1)) }
-    ensures read_to_end { IfOk result (λ status. (status ≡ Status.Complete) ⊎ ((status ≡ Status.Refused) ⊎ (status ≡ Status.Stopped)) → IsAtEnd (S.left source.new)) }
+    ensures read_to_end { IfSome (read_limit (map string_bytes words.now)) (λ limit. IfOk result (IsReadFor (S.left source.old) (S.left source.new) limit)) }
     ensures stopped { result ≡ Err Break.Fault → IsStopped K.taken K.faults out.old.sink.now out.new.sink.now }
 {
-    let Some(command) = command_of(words) else {
+    let Some(command) = command_of(alloc, words)? else {
         return put_line(usage_line(), Status::Usage, out);
     };
-    match read_all(alloc, source, DOCUMENT_LIMIT) {
+    let Some(limit) = document_limit(command) else {
+        return put_command(alloc, command, &[], out);
+    };
+    match read_all(alloc, source, limit) {
         Ok(document) => put_command(alloc, command, document.as_slice(), out),
-        Err(ReadFault::TooLong) => put_line(not_built_line(), Status::NotBuilt, out),
+        Err(ReadFault::TooLong) => put_refusal(alloc, &Refusal::TooLong, out),
         Err(ReadFault::Failed) => put_line(read_fault_line(), Status::ReadFault, out),
         Err(ReadFault::Memory) => Err(Break::Memory),
     }
 }
 
-/// Writes the report of a command for its document.
-fn put_command<K: Sink>(
-    alloc: Global,
-    command: Command,
-    document: &[u8],
-    out: &mut Writer<'_, K>,
-) -> Result<Status, Break>
-    requires { IsAccepted command }
-    ensures same_sink { out.new.sink.ghost_name ≡ out.old.sink.ghost_name }
-    ensures report { Writes (command_due command document.now) (written K.taken K.faults out.old) (written K.taken K.faults out.new) result }
-    ensures stopped { result ≡ Err Break.Fault → IsStopped K.taken K.faults out.old.sink.now out.new.sink.now }
+/// The most bytes of a command's document; without a limit nothing is read.
+fn document_limit(command: Command) -> Option<usize>
+    ensures { result ≡ document_limit command }
 {
     match command {
-        Command::Algebra { degree_limit } => match read_braid(alloc, document) {
-            Ok(braid) => put_algebra(alloc, braid, degree_limit, out),
-            Err(fault) => put_refusal(alloc, fault, out),
-        },
+        Command::OnDocument(_) => Some(DOCUMENT_LIMIT),
+        Command::Points(_, _) => None,
     }
-}
-
-/// Writes the line of a document that has no braid.
-fn put_refusal<K: Sink>(
-    alloc: Global,
-    fault: InputFault,
-    out: &mut Writer<'_, K>,
-) -> Result<Status, Break>
-    ensures same_sink { out.new.sink.ghost_name ≡ out.old.sink.ghost_name }
-    ensures refusal { IfSome (refusal_of fault) (λ refusal. Writes (refusal_due refusal) (written K.taken K.faults out.old) (written K.taken K.faults out.new) result) }
-    ensures memory { refusal_of fault ≡ None → (result ≡ Err Break.Memory) × (written K.taken K.faults out.new ≡ written K.taken K.faults out.old) }
-    ensures stopped { result ≡ Err Break.Fault → IsStopped K.taken K.faults out.old.sink.now out.new.sink.now }
-{
-    match fault {
-        InputFault::Braid(tables) => {
-            let line = refusal_text(alloc, &tables)?;
-            put_line(line.as_slice(), Status::Refused, out)
-        }
-        InputFault::Unbuilt => put_line(not_built_line(), Status::NotBuilt, out),
-        InputFault::Memory => Err(Break::Memory),
-    }
-}
-
-/// Writes a report of one line, and answers its status. The only break is that the sink failed.
-fn put_line<K: Sink>(line: &[u8], status: Status, out: &mut Writer<'_, K>) -> Result<Status, Break>
-    ensures same_sink { out.new.sink.ghost_name ≡ out.old.sink.ghost_name }
-    ensures report { Writes (line_report line.now status) (written K.taken K.faults out.old) (written K.taken K.faults out.new) result }
-    ensures answer { (result ≡ Ok status) ⊎ (result ≡ Err Break.Fault) }
-    ensures stopped { result ≡ Err Break.Fault → IsStopped K.taken K.faults out.old.sink.now out.new.sink.now }
-{
-    out.put(line, None)?;
-    Ok(status)
 }

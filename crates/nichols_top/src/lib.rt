@@ -2,9 +2,12 @@
 #![tactic(auto)]
 
 mod algebra;
-mod command;
+mod commands;
 mod entry;
+mod line;
+mod reduce;
 mod status;
+mod symmetrize;
 mod writer;
 
 pub use entry::run;

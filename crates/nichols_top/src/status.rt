@@ -20,8 +20,6 @@ pub(crate) enum Status {
     WriteFault,
     /// There was no memory.
     Memory,
-    /// The document isn't built into a braid.
-    NotBuilt,
 }
 
 impl Status {
@@ -37,7 +35,6 @@ impl Status {
             Status::ReadFault => 4,
             Status::WriteFault => 5,
             Status::Memory => 6,
-            Status::NotBuilt => 7,
         }
     }
 }

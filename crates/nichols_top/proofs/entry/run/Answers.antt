@@ -1,16 +1,16 @@
-use Rattle.std.proofs.Common.{◌≡◌, ◌∙◌, ap, sym, refl, subst, rules, map, string_bytes, inl, inr, ◌⊎◌, Ok}
+use Rattle.std.proofs.Common.{◌≡◌, ◌∙◌, ap, sym, refl, subst, rules, map, string_bytes, inl, inr, Ok}
 use Rattle.std.proofs.lemmas.Result.{IfOk-at_ok}
-use Rattle.std.specs.Io.KnownBytes.{IsAtEnd, Keeps}
-use Rattle.nichols_io.specs.Bytes.{IsLonger}
+use Rattle.std.specs.Prelude.{IfSome}
+use Rattle.std.specs.Io.KnownBytes.{Keeps}
 use Rattle.nichols_io.specs.Counts.{Rose}
-use Rattle.nichols_top.specs.Command.{read_limit}
+use Rattle.nichols_top.specs.Input.{read_limit}
 use Rattle.nichols_top.specs.Due.{due}
-use Rattle.nichols_top.specs.Ends.{EndsAs, IsComplete}
+use Rattle.nichols_top.specs.Ends.{EndsAs, IsComplete, IsReadFor}
 use Rattle.nichols_top.specs.Written.{IsStopped, Written, seen, written}
 use Rattle.nichols_top.specs.declared.status.Status.{Status}
 use Rattle.nichols_top.specs.declared.status.Status.TheVariants.{Complete, Usage, Refused, Stopped, ReadFault}
-use Rattle.nichols_top.proofs.Conclusions.{run_ends, ends_kept, usage_tells, read_fault_tells, write_fault_tells, statuses_most, complete_unless, answered_at, answered_status, fault_told}
-use Rattle.nichols_top.proofs.Reading.{if_some_always, if_some_left}
+use Rattle.nichols_top.proofs.Conclusions.{run_ends, ends_kept, usage_tells, read_fault_tells, write_fault_tells, statuses_most, complete_unless, answered_at, answered_status, answered_or_broken, fault_told}
+use Rattle.nichols_top.proofs.Reading.{if_some_from}
 use Rattle.nichols_top.proofs.entry.run.Goals as goal
 
 pub returns : goal.returns
@@ -20,8 +20,8 @@ returns g c =
     let ends : EndsAs (due words told.0) (Rose (g.S.Source.faults c.args.source.now) (g.S.Source.faults c.put_report-report.new.source)) (seen g.K.Sink.taken g.K.Sink.faults c.args.sink.now) (seen g.K.Sink.taken g.K.Sink.faults c.conclude.new.self.sink.now) c.code.result =
     rw (← c.new-out.ensures.sink, c.code.ensures)
     (run_ends words told.0 told.2.0 (written g.K.Sink.taken g.K.Sink.faults c.new-out.result) (written g.K.Sink.taken g.K.Sink.faults c.put_report-report.new.out) (written g.K.Sink.taken g.K.Sink.faults c.conclude.new.self) c.put_report-report.result c.conclude.result told.2.1 c.new-out.ensures.last c.conclude.ensures.status told.2.2) in
-    let read : (s : Status) → (s ≡ Complete) ⊎ ((s ≡ Refused) ⊎ (s ≡ Stopped)) → c.put_report-report.result ≡ Ok s → IsAtEnd (g.S.Source.left c.put_report-report.new.source) =
-    λ s which is. IfOk-at_ok (λ t. (t ≡ Complete) ⊎ ((t ≡ Refused) ⊎ (t ≡ Stopped)) → IsAtEnd (g.S.Source.left c.put_report-report.new.source)) is c.put_report-report.ensures.read_to_end which in
+    let read : (s : Status) → c.put_report-report.result ≡ Ok s → IfSome (read_limit words) (λ limit. IsReadFor (g.S.Source.left c.args.source.now) (g.S.Source.left c.put_report-report.new.source) limit s) =
+    λ s is. if_some_from (read_limit words) (λ limit h. IfOk-at_ok (IsReadFor (g.S.Source.left c.args.source.now) (g.S.Source.left c.put_report-report.new.source) limit) is h) c.put_report-report.ensures.read_to_end in
     record {
       report = (told.0, told.1, subst (λ k. EndsAs (due words told.0) (Rose (g.S.Source.faults c.args.source.now) (g.S.Source.faults c.put_report-report.new.source)) (seen g.K.Sink.taken g.K.Sink.faults c.args.sink.now) (seen g.K.Sink.taken g.K.Sink.faults k) c.code.result) (search rules) ends);
       complete = λ still kept. (
@@ -30,7 +30,11 @@ returns g c =
         subst (λ k. IsComplete (due words told.0) (seen g.K.Sink.taken g.K.Sink.faults c.args.sink.now) (seen g.K.Sink.taken g.K.Sink.faults k) c.code.result) (search rules)
             (complete_unless ends still (subst (λ k. ¬ Rose (g.K.Sink.faults c.args.sink.now) (g.K.Sink.faults k)) (search rules) kept)),
       );
-      usage = λ none. elim (answered_status Usage c.conclude.ensures.status (c.put_report-report.ensures.usage none)) [ inl e ↦ inl (c.code.ensures ∙ e) | inr e ↦ inr (c.code.ensures ∙ e) ];
+      usage = λ none. elim (answered_or_broken Usage c.conclude.ensures.status (c.put_report-report.ensures.usage none)) [
+        | inl e ↦ inl (c.code.ensures ∙ e)
+        | inr (inl e) ↦ inr (inl (c.code.ensures ∙ e))
+        | inr (inr e) ↦ inr (inr (c.code.ensures ∙ e))
+      ];
       usage_only = usage_tells words told.0 ends;
       read_fault = read_fault_tells words told.0 ends;
       write_fault = λ e. subst (λ k. Rose (g.K.Sink.faults c.args.sink.now) (g.K.Sink.faults k)) (search rules) (write_fault_tells words told.0 ends e);
@@ -51,10 +55,9 @@ returns g c =
       ];
       unread = c.put_report-report.ensures.unread;
       taken = c.put_report-report.ensures.taken;
-      read_to_end = λ h. if_some_always (read_limit words) (elim h [
-        | inl e ↦ read Complete (inl refl) (answered_at Complete c.conclude.ensures.status (sym c.code.ensures ∙ e) (λ x. cc) (λ x. cc))
-        | inr e ↦ read Stopped (inr (inr refl)) (answered_at Stopped c.conclude.ensures.status (sym c.code.ensures ∙ e) (λ x. cc) (λ x. cc))
-      ]);
-      refused_at_end = λ e. if_some_left (read_limit words) (IsLonger (g.S.Source.left c.args.source.now))
-          (read Refused (inr (inl refl)) (answered_at Refused c.conclude.ensures.status (sym c.code.ensures ∙ e) (λ x. cc) (λ x. cc)));
+      read_to_end = λ h. elim h [
+        | inl e ↦ if_some_from (read_limit words) (λ limit r. r.0 (inl refl)) (read Complete (answered_at Complete c.conclude.ensures.status (sym c.code.ensures ∙ e) (λ x. cc) (λ x. cc)))
+        | inr e ↦ if_some_from (read_limit words) (λ limit r. r.0 (inr refl)) (read Stopped (answered_at Stopped c.conclude.ensures.status (sym c.code.ensures ∙ e) (λ x. cc) (λ x. cc)))
+      ];
+      refused_at_end = λ e. if_some_from (read_limit words) (λ limit r. r.1 refl) (read Refused (answered_at Refused c.conclude.ensures.status (sym c.code.ensures ∙ e) (λ x. cc) (λ x. cc)));
     }

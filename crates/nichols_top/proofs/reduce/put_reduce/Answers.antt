@@ -1,0 +1,32 @@
+use Rattle.std.proofs.Common.{◌≡◌, sym, ◌∙◌, ap, Err}
+use Rattle.std.proofs.lemmas.Result.{err_from_is_err_and}
+use Rattle.nichols_top.specs.Algebra.{scope_of}
+use Rattle.nichols_top.specs.declared.writer.Break.TheVariants.{Fault}
+use Rattle.nichols_top.proofs.Expressions.{reduce_first, reduce_breaks, reduce_whole}
+use Rattle.nichols_top.proofs.reduce.put_reduce.Goals as goal
+
+pub returns-in_err-ended-clause-report : goal.returns-in_err-ended-clause-report
+returns-in_err-ended-clause-report g c =
+    let p = err_from_is_err_and c.from_residual.result c.from_residual.ensures.1 in
+    rw (p.1, p.2, ← c.document.view_is) (reduce_first (record { braid = c.document.inside.braid; expressions = c.document.inside.expressions.items }) (scope_of c.args.options) c.in_err-ended.ensures.pieces)
+
+pub returns-in_err-put_forms-clause-report : goal.returns-in_err-put_forms-clause-report
+returns-in_err-put_forms-clause-report g c =
+    let p = err_from_is_err_and c.from_residual-in_err-put_forms.result c.from_residual-in_err-put_forms.ensures.1 in
+    rw (p.1, p.2, ← c.document.view_is)
+    (reduce_breaks (record { braid = c.document.inside.braid; expressions = c.document.inside.expressions.items }) (scope_of c.args.options) c.in_ok-ended.ended.graded c.in_ok-ended.ended.end c.in_ok-ended.ensures.ended c.in_ok-ended.ensures.pieces
+    (rw (← c.as_slice.ensures.value) c.in_err-put_forms.ensures.pieces))
+
+pub returns-in_err-put_forms-clause-stopped : goal.returns-in_err-put_forms-clause-stopped
+returns-in_err-put_forms-clause-stopped g c = λ e.
+    let p = err_from_is_err_and c.from_residual-in_err-put_forms.result c.from_residual-in_err-put_forms.ensures.1 in
+    let told = sym p.1 ∙ e in
+    let cause : p.0 ≡ Fault = cc in
+    let h = c.in_err-put_forms.ensures.stopped (ap Err (sym p.2 ∙ cause)) in
+    (h.0, h.1 ∙ c.in_ok-ended.ensures.pieces.sink.kept, h.2)
+
+pub returns-clause-report : goal.returns-clause-report
+returns-clause-report g c =
+    rw (← c.document.view_is)
+    (reduce_whole (record { braid = c.document.inside.braid; expressions = c.document.inside.expressions.items }) (scope_of c.args.options) c.in_ok-ended.ended.graded c.in_ok-ended.ended.end c.status_of.result c.in_ok-ended.ensures.ended c.status_of.ensures c.in_ok-ended.ensures.pieces
+    (rw (← c.as_slice.ensures.value) c.in_ok-put_forms.ensures.pieces))

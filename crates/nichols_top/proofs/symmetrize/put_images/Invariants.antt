@@ -1,0 +1,14 @@
+use Rattle.std.proofs.Common.{◌≡◌, ◌+◌}
+use Rattle.nichols_top.specs.Report.{numbered}
+use Rattle.nichols_top.specs.Symmetrize.{image_due}
+use Rattle.nichols_top.specs.Written.{written}
+use Rattle.nichols_top.proofs.Numbered.{numbered_from}
+use Rattle.nichols_top.proofs.Taking.{HasTaken}
+use Rattle.nichols_top.proofs.symmetrize.put_images.Given as goal
+
+abbrev pub invariant-loop-expression : goal.invariant-loop-expression
+invariant-loop-expression g l = record {
+  same_sink : l.out.sink.ghost_name ≡ l.fn.out.sink.ghost_name;
+  number : l.number ≡ 1 + l.expression-index;
+  taken : HasTaken (numbered (image_due l.braid) 1 l.expressions) (numbered_from (image_due l.braid) 1 l.expressions l.expression-index) (written g.K.Sink.taken g.K.Sink.faults l.fn.out) (written g.K.Sink.taken g.K.Sink.faults l.out);
+}

@@ -1,0 +1,98 @@
+//! The degrees of some algebras by the plain program.
+
+use nichols_braid::{Braid, Scalars};
+use nichols_field::Field;
+use nichols_graded::Graded;
+use nichols_plain::plain_degree;
+use nichols_words::Relation;
+use std::alloc::{AllocError, Global};
+use std::test::Fail;
+
+fn table(alloc: Global, entries: &[&[i64]]) -> Result<Vec<Vec<i64>>, AllocError> {
+    let mut out = Vec::new(alloc);
+    for row in entries {
+        out.push(row.to_vec(alloc)?)?;
+    }
+    Ok(out)
+}
+
+fn braid(alloc: Global, modulus: i64, rack: &[&[i64]], scalars: &Scalars) -> Result<Braid, Fail> {
+    let field = Field::new(modulus).map_err(|_| "no field")?;
+    let rack = table(alloc, rack)?;
+    let braid = Braid::new(alloc, field, rack.as_slice(), scalars).map_err(|_| "no braid")?;
+    Ok(braid)
+}
+
+/// One letter with the scalar 2 over seven elements: the third power is zero.
+fn one_letter(alloc: Global) -> Result<Braid, Fail> {
+    braid(alloc, 7, &[&[1]], &Scalars::Constant(2))
+}
+
+fn three_transpositions(alloc: Global) -> Result<Braid, Fail> {
+    let rack: [&[i64]; 3] = [&[1, 3, 2], &[3, 2, 1], &[2, 1, 3]];
+    braid(alloc, 101, &rack, &Scalars::Constant(-1))
+}
+
+fn tetrahedron(alloc: Global) -> Result<Braid, Fail> {
+    let rack: [&[i64]; 4] = [&[1, 4, 2, 3], &[3, 2, 4, 1], &[4, 1, 3, 2], &[2, 3, 1, 4]];
+    braid(alloc, 101, &rack, &Scalars::Constant(-1))
+}
+
+/// Two letters that act as the identity, and the scalar -1 but for `q(1, 2)`, which is 1.
+fn two_letters(alloc: Global) -> Result<Braid, Fail> {
+    let scalars = table(alloc, &[&[-1, 1], &[-1, -1]])?;
+    braid(alloc, 101, &[&[1, 2], &[1, 2]], &Scalars::Table(scalars))
+}
+
+fn are_same(left: &[Relation], right: &[Relation]) -> bool {
+    left.len() == right.len()
+        && left.iter().zip(right).all(|(one, other)| {
+            one.candidate == other.candidate && one.form.terms() == other.form.terms()
+        })
+}
+
+/// Whether a finished degree has the basis and the relations that the plain program gives.
+fn is_plain(alloc: Global, graded: &Graded, m: u32) -> Result<bool, Fail> {
+    let braid = graded.levels().braid();
+    if m > 7 || m > graded.levels().last() || u32::from(braid.letters()).checked_pow(m).is_none() {
+        return Err("not within the limits".into());
+    }
+    let plain = plain_degree(alloc, braid, m)?;
+    Ok(graded.basis(m) == plain.basis.as_slice() && are_same(graded.relations(m), &plain.relations))
+}
+
+/// Whether so many degrees, from 0 on, are those of the plain program.
+fn are_plain(alloc: Global, braid: Braid, degrees: u32) -> Result<bool, Fail> {
+    let mut graded = Graded::start(alloc, braid, 12, 1024)?;
+    for m in 0..degrees {
+        if m > 0 {
+            if graded.ended() {
+                return Err("ended early".into());
+            }
+            graded.advance(alloc)?;
+        }
+        if !is_plain(alloc, &graded, m)? {
+            return Ok(false);
+        }
+    }
+    Ok(true)
+}
+
+#[test]
+fn degrees_of_the_plain_program(rt: HostRuntime) -> Result<(), Fail> {
+    let alloc = rt.alloc();
+    let rows = [
+        (one_letter(alloc)?, 4),
+        (three_transpositions(alloc)?, 5),
+        (tetrahedron(alloc)?, 4),
+        (two_letters(alloc)?, 6),
+    ];
+    for (braid, degrees) in rows {
+        let letters = braid.letters();
+        assert!(rt;
+            are_plain(alloc, braid, degrees)?,
+            "{degrees} degrees of {letters} letters"
+        );
+    }
+    Ok(())
+}
