@@ -108,7 +108,7 @@ from_place Letter place front counts h = h
 from_place LongNumber place front counts h = omega (arith, counts, h, length-drop (place - 1) front, length-drop NUMBER_LIMIT (drop (place - 1) front))
 from_place LongWord place front counts h = omega (arith, counts, h, length-drop (place - 1) front)
 from_place Terms place front counts h = omega (arith, counts, h, length-drop (place - 1) front)
-from_place Surplus place front counts h = omega (arith, counts, h, length-drop (place - 1) front)
+from_place Surplus place front counts h = absurd h
 
 settled_in_front : (text front back : List ℕ) (e : FaultAt) → text ≡ front ++ back → IsEndOf e.left text → Settles e.cause (length text + 1 - length e.left) front → length back < length (from_settling_byte e.cause e.left)
 settled_in_front text front back e split is settles =

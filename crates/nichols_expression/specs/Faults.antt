@@ -23,7 +23,8 @@ IsPlacedIn text (At place cause) = IsPlaceOf text cause place
 IsPlacedIn text Memory = Unit {0}
 
 -- a front of a text which settles a fault there: it has the byte at the place, which no front has where the text ends too early;
--- of a run that is no letter, the first byte behind the run and the spaces after it; of too long a number, one digit more than a number may have
+-- of a run that is no letter, the first byte behind the run and the spaces after it; of too long a number, one digit more than a number may have;
+-- that of too many expressions is settled by no front
 abbrev pub Settles : Cause → ℕ → List ℕ → Type 0
 Settles Early place front = place ≤ length front
 Settles Byte place front = place ≤ length front
@@ -31,4 +32,4 @@ Settles Letter place front = 0 < length (past_spaces (past_run (drop (place - 1)
 Settles LongNumber place front = place + NUMBER_LIMIT ≤ length front
 Settles LongWord place front = place ≤ length front
 Settles Terms place front = place ≤ length front
-Settles Surplus place front = place ≤ length front
+Settles Surplus place front = ⊥

@@ -15,8 +15,10 @@ use Rattle.nichols_input.specs.Keys.{needed_keys, known_keys, is_known}
 use Rattle.nichols_input.specs.Shapes.{as_rows, as_scalars}
 use Rattle.nichols_input.specs.Document.{DocumentValue, at_key, keys_in, missing_in, unknown_in, has_wrong_kind, wrong_kind_in, keys_refusal, kinds_refusal, texts_of, modulus_at, rows_at, scalars_at, texts_at, values_from, with_values, with_texts, document_of, unless_refused, document_of_table, table_in, document_of_found, document_in}
 use Rattle.nichols_input.specs.Refusal.{Refusal, missing_key, unknown_key, wrong_kind, modulus, expression}
-use Rattle.nichols_input.specs.Laws.{IsFirst, HasNeededKeys, HasKeys, Holds, IsFirstFault, faulty, surplus, IsDue, no_table, missing, unknown, kind, outside, no_braid, no_expression, whole, DocumentIsDue}
+use Rattle.nichols_input.specs.Laws.{IsFirst, IsLeast, HasNeededKeys, HasKeys, Holds, IsFirstFault, faulty, surplus, IsDue, no_table, missing, unknown, kind, outside, no_braid, no_expression, whole, DocumentIsDue}
 use Rattle.nichols_input.proofs.ReadKinds.{unread, kinds_read, right_kinds}
+use Rattle.nichols_input.proofs.KeyOrder.{table_keys_rise}
+use Rattle.nichols_input.proofs.LeastKeys.{first_is_least, least_is_first}
 use Rattle.nichols_input.proofs.Searches.{find_first, find_none, none_find, first_find}
 use Rattle.nichols_input.proofs.ValueLaws.{Told, values, fault_at, too_many, values_told, past_read, refused_text, surplus_text, all_values}
 use Rattle.toml.specs.Data.{Members, as_integer}
@@ -73,7 +75,7 @@ table_due bytes ms found = by_missing (missing_in ms) refl
 
     by_unknown : HasNeededKeys ms → missing_in ms ≡ None → (o : Option (List ℕ)) → unknown_in ms ≡ o
         → IsDue bytes (unless_refused (option_map unknown_key o) (unless_refused (kinds_refusal ms) (document_at ms)))
-    by_unknown needed there (Some text) is = unknown ms text found needed (find_first (λ t. not (is_known t)) (keys_in ms) text is)
+    by_unknown needed there (Some text) is = unknown ms text found needed (first_is_least (λ t. not (is_known t)) (keys_in ms) text (table_keys_rise bytes ms found) is)
     by_unknown needed there None is = by_kind (needed, find_none (λ t. not (is_known t)) (keys_in ms) is) there (wrong_kind_in ms) refl
 
     by_missing : (o : Option Key) → missing_in ms ≡ o
@@ -106,11 +108,11 @@ unfolding document_of_table keys_refusal missing_in
 missing_answered ms key first =
     ap (λ o. unless_refused (option_or (option_map missing_key o) (option_map unknown_key (unknown_in ms))) (unless_refused (kinds_refusal ms) (document_at ms))) (first_find (λ k. is_none (at_key k ms)) needed_keys key first)
 
-unknown_answered : (ms : Members) (text : List ℕ) → HasNeededKeys ms → IsFirst (λ t. not (is_known t)) (keys_in ms) text → document_of_table ms ≡ Err (unknown_key text)
+unknown_answered : (bytes : List ℕ) (ms : Members) (text : List ℕ) → table_in bytes ≡ Some ms → HasNeededKeys ms → IsLeast (λ t. not (is_known t)) (keys_in ms) text → document_of_table ms ≡ Err (unknown_key text)
 unfolding document_of_table keys_refusal unknown_in
-unknown_answered ms text needed first =
+unknown_answered bytes ms text found needed least =
     ap (λ o. unless_refused (option_or (option_map missing_key o) (option_map unknown_key (unknown_in ms))) (unless_refused (kinds_refusal ms) (document_at ms))) (nothing_missing ms needed)
-    ∙ ap (λ o. unless_refused (option_map unknown_key o) (unless_refused (kinds_refusal ms) (document_at ms))) (first_find (λ t. not (is_known t)) (keys_in ms) text first)
+    ∙ ap (λ o. unless_refused (option_map unknown_key o) (unless_refused (kinds_refusal ms) (document_at ms))) (least_is_first (λ t. not (is_known t)) (keys_in ms) text (table_keys_rise bytes ms found) least)
 
 kind_answered : (ms : Members) (key : Key) → HasKeys ms → IsFirst (λ k. has_wrong_kind k (at_key k ms)) known_keys key → document_of_table ms ≡ Err (wrong_kind key)
 unfolding document_of_table wrong_kind_in
@@ -150,7 +152,7 @@ due_answered : (bytes : List ℕ) (due : Result DocumentValue Refusal) → IsDue
 unfolding document_in
 due_answered bytes _ (no_table none) = ap document_of_found none
 due_answered bytes _ (missing ms key found first) = ap document_of_found found ∙ missing_answered ms key first
-due_answered bytes _ (unknown ms text found needed first) = ap document_of_found found ∙ unknown_answered ms text needed first
+due_answered bytes _ (unknown ms text found needed least) = ap document_of_found found ∙ unknown_answered bytes ms text found needed least
 due_answered bytes _ (kind ms key found keys first) = ap document_of_found found ∙ kind_answered ms key keys first
 due_answered bytes _ (outside ms p rows scalars texts found holds listed) = holds_answered bytes ms p rows scalars texts found holds ∙ outside_answered p rows scalars texts listed
 due_answered bytes _ (no_braid ms p rows scalars texts fault found holds listed is) =

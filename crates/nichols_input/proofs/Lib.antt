@@ -2,6 +2,8 @@ pub mod Found
 pub mod Values
 pub mod ReadKinds
 pub mod Searches
+pub mod KeyOrder
+pub mod LeastKeys
 pub mod ValueLaws
 pub mod DueLaws
 pub mod OnLiterals

@@ -1,6 +1,8 @@
 -- When a document is read, and when each refusal is told, in the words of the format.
 use Rattle.std.specs.Prelude.{◌≡◌, ◌↔◌, ◌≤◌, ◌+◌, ℕ, suc, ℤ, Bool, true, false, not, List, ◌∷◌, ◌++◌, length, map, None, Some, is_none, option_and_then, Result, Ok, Err}
-use Rattle.std.specs.List.{list_all}
+use Rattle.std.specs.Cmp.Lexicographic.{slice_cmp}
+use Rattle.std.specs.List.{list_all, Contains}
+use Rattle.std.specs.Ordering.{nat_cmp, is_lt}
 use Rattle.std.specs.Result.{is_ok}
 use Rattle.nichols_field.specs.Field.{prime_field, is_modulus_integer}
 use Rattle.nichols_tensor.specs.Combination.{Combination}
@@ -26,6 +28,12 @@ pub record IsFirst {X : Type 0} (test : X → Bool) (xs : List X) (x : X) : Type
   pub split : xs ≡ before ++ x ∷ after
   pub others : list_all (λ y. not (test y)) before ≡ true
   pub here : test x ≡ true
+
+-- the text is the least of a list, by its bytes, that meets a test
+pub record IsLeast (test : List ℕ → Bool) (texts : List (List ℕ)) (text : List ℕ) : Type 0 where
+  pub here : Contains texts text
+  pub meets : test text ≡ true
+  pub least : (other : List ℕ) → Contains texts other → test other ≡ true → is_lt (slice_cmp nat_cmp other text) ≡ false
 
 -- each needed key is there
 abbrev pub HasNeededKeys : Members → Type 0
@@ -60,7 +68,7 @@ pub data IsFirstFault (braid : BraidValue) (texts : List (List ℕ)) : ℕ → �
 pub data IsDue (bytes : List ℕ) : Result DocumentValue Refusal → Type 0 where
   no_table : table_in bytes ≡ None → IsDue bytes (Err not_toml)
   missing : (ms : Members) (key : Key) → table_in bytes ≡ Some ms → IsFirst (λ k. is_none (at_key k ms)) needed_keys key → IsDue bytes (Err (missing_key key))
-  unknown : (ms : Members) (text : List ℕ) → table_in bytes ≡ Some ms → HasNeededKeys ms → IsFirst (λ t. not (is_known t)) (keys_in ms) text
+  unknown : (ms : Members) (text : List ℕ) → table_in bytes ≡ Some ms → HasNeededKeys ms → IsLeast (λ t. not (is_known t)) (keys_in ms) text
       → IsDue bytes (Err (unknown_key text))
   kind : (ms : Members) (key : Key) → table_in bytes ≡ Some ms → HasKeys ms → IsFirst (λ k. has_wrong_kind k (at_key k ms)) known_keys key
       → IsDue bytes (Err (wrong_kind key))

@@ -3,7 +3,7 @@
 ghost use Rattle.nichols_input.specs.Laws.{DocumentIsDue};
 
 /// Each document has exactly one answer: it is read with the braid and the values that stand in it, or refused for the first
-/// cause, in the order of `InputFault`, that holds of it.
+/// cause, in the order of `InputFault`, that holds of it. The unknown key that is named is the least by its bytes.
 #[tactic(auto, using(crate::proofs::DueLaws::document_is_due))]
 pub fn document_is_due()
     ensures { DocumentIsDue }
