@@ -1,7 +1,8 @@
 //! The piece of a degree.
 
-ghost use Rattle.std.specs.Prelude.{◌≡◌, ◌++◌, IfOk, OnOk, ◌<◌};
+ghost use Rattle.std.specs.Prelude.{◌≡◌, ◌++◌, ℕ, List, IfOk, OnOk, true, length};
 ghost use Rattle.std.specs.List.{flat_map};
+ghost use Rattle.nichols_tensor.specs.Relation.{PlainRelation};
 ghost use Rattle.nichols_text.specs.Words.{relation_line};
 ghost use Rattle.nichols_text.specs.Pieces.{degree_piece, dimension_line, basis_line};
 
@@ -27,6 +28,16 @@ pub fn degree_text(
         push_basis(&mut out, basis)?;
         push_relations(&mut out, relations)?;
     }
+    Ok(out)
+}
+
+/// The piece of degree m in brief, from its dimension alone.
+#[tactic(auto, unfolding(crate::specs::Pieces::degree_piece))]
+pub fn brief_degree_text(alloc: Global, m: u32, dimension: u64) -> Result<Vec<u8>, AllocError>
+    ensures { IfOk result (λ r. (basis : List (List ℕ)) (relations : List PlainRelation) → length basis ≡ dimension → r.items ≡ degree_piece m basis relations true) }
+{
+    let mut out = Vec::new(alloc);
+    push_dimension(&mut out, m, dimension)?;
     Ok(out)
 }
 

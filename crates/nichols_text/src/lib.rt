@@ -12,7 +12,7 @@ mod refusal;
 mod table_lines;
 mod word;
 
-pub use degree::degree_text;
+pub use degree::{brief_degree_text, degree_text};
 pub use end::{EndLine, end_text};
 pub use expressions::{beyond_text, form_text, image_text};
 pub use header::{header_text, symmetrize_header};

@@ -19,7 +19,7 @@ pub enum Refusal {
     TooLong,
     /// The document isn't read.
     Input(InputFault),
-    /// The first expression, by its number from 1, with a word of more than 7 letters, where no such word is symmetrized.
+    /// An expression has a word of more than 7 letters, which is not symmetrized: the number, from 1, of the first that has one.
     LongExpression(u32),
 }
 
