@@ -1,0 +1,11 @@
+pub mod Blocks
+pub mod FewWords
+pub mod FormCells
+pub mod KeptRows
+pub mod LeftBlocks
+pub mod LookedUp
+pub mod Wholes
+pub mod ValueLaws
+pub mod Readings
+pub mod Searching
+pub mod WorkedBlocks
