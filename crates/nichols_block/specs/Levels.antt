@@ -1,20 +1,50 @@
--- The rules of the degrees from 0 on.
-use Rattle.std.specs.Prelude.{◌≡◌, ◌<◌, ◌≤◌, ℕ, zero, suc, List, [], ◌∷◌, ◌++◌, length}
+-- The degrees of an algebra from 0 on, as values of their blocks.
+use Rattle.std.specs.Prelude.{◌≡◌, ◌≤◌, ℕ, suc, Bool, ◌&&◌, List, [], ◌∷◌, map, length, nat_eq}
 use Rattle.nichols_braid.specs.declared.TheConstants.{MOST_DEGREES}
 use Rattle.nichols_braid.specs.Braid.{BraidValue}
-use Rattle.nichols_block.specs.Rule.{PlainRule, rule_of}
+use Rattle.nichols_braid.specs.Product.{product_before}
+use Rattle.nichols_braid.specs.Products.{leading, products}
+use Rattle.nichols_value.specs.declared.shared.Shared.{Shared}
+use Rattle.nichols_value.specs.declared.value.BlockValue.{BlockValue}
+use Rattle.nichols_value.specs.declared.value.BlockValue.TheVariants.{Rule, Over, Void, Starved}
+use Rattle.nichols_value.specs.Block.{has_block}
+use Rattle.nichols_value.specs.Rule.{IsRuleOf, PlainRule, rule_of}
+use Rattle.nichols_value.specs.Worth.{worth}
+use Rattle.nichols_block.specs.declared.levels.Degree.{Degree}
 
--- levels as contracts see them: the braid, and the last degree; the rule of each degree up to it is determined
+-- levels as contracts see them: the braid, the last degree, and for how many degrees more there is room
 abbrev pub LevelsValue : Type 0
-LevelsValue = record { braid : BraidValue; last : ℕ }
+LevelsValue = record { braid : BraidValue; last : ℕ; spare : ℕ }
 
--- the rules of the degrees below n
-abbrev pub rules_below : BraidValue → ℕ → List PlainRule
-rules_below braid zero = []
-rules_below braid (suc n) = rules_below braid n ++ rule_of braid n ∷ []
+-- the rules of the blocks of degree m, by product
+unfoldable pub rules_of : BraidValue → ℕ → List PlainRule
+rules_of braid m = map (rule_of braid m) (products braid m)
 
--- the rule at place k is that of degree k
-pub record AreLevels (braid : BraidValue) (rules : List PlainRule) : Type 0 where
-  pub some : 0 < length rules
-  pub most : length rules ≤ suc MOST_DEGREES
-  pub whole : rules ≡ rules_below braid (length rules)
+-- a value that is kept for the block of degree m and product g: its rule, with what serves the degree above where m is the last degree
+abbrev pub IsKept : BraidValue → ℕ → ℕ → List ℕ → BlockValue → Type 0
+IsKept braid last m g (Rule r) = IsRuleOf braid m g r × (m ≡ last → r ≡ rule_of braid m g)
+IsKept braid last m g (Over count) = ⊥
+IsKept braid last m g Void = ⊥
+IsKept braid last m g Starved = ⊥
+
+-- one value for each of these products
+abbrev pub AreKept : BraidValue → ℕ → ℕ → List (List ℕ) → List Shared → Type 0
+AreKept braid last m [] [] = Unit {0}
+AreKept braid last m (g ∷ gs) (v ∷ vs) = IsKept braid last m g (worth v) × AreKept braid last m gs vs
+AreKept braid last m _ _ = ⊥
+
+-- the degrees from m on have their products, with a value for each
+abbrev pub AreDegrees : BraidValue → ℕ → ℕ → List Degree → Type 0
+AreDegrees braid last m [] = Unit {0}
+AreDegrees braid last m (d ∷ ds) = (d.products ≡ products braid m) × AreKept braid last m (products braid m) d.values.items × AreDegrees braid last (suc m) ds
+
+-- the degrees from 0 on
+pub record AreLevels (braid : BraidValue) (last : ℕ) (degrees : List Degree) : Type 0 where
+  pub count : length degrees ≡ suc last
+  pub most : last ≤ MOST_DEGREES
+  pub each : AreDegrees braid last 0 degrees
+
+-- whether a letter is one of those of the lower blocks of a block of product g in the degree after m: a leading letter for which
+-- the product before it is one of degree m
+abbrev pub is_lower_letter : BraidValue → ℕ → List ℕ → ℕ → Bool
+is_lower_letter braid m g a = nat_eq (leading braid a) a && has_block braid m (product_before braid a g)

@@ -1,7 +1,12 @@
 -- what public contracts cite
-pub mod Rule
+pub mod Lower
 pub mod Levels
 -- what the crate's own functions cite
-pub mod Short
+pub mod Words
+pub mod Gathered
 pub mod Rows
+pub mod NewRows
 pub mod Places
+pub mod Forms
+pub mod Pass
+pub mod Making

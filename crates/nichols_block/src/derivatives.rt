@@ -1,187 +1,278 @@
-//! Derivatives of candidates, in normal form over the degree below.
+//! Derivatives of the new words of a block, in normal form over the lower blocks.
 
-ghost use Rattle.std.specs.Prelude.{◌≡◌, ◌<◌, ◌++◌, ◌∷◌, IfOk, [], length, map, suc};
-ghost use Rattle.std.specs.Result.{OnOk};
-ghost use Rattle.std.specs.List.{Contains};
-ghost use Rattle.nichols_braid.specs.declared.TheConstants.{MOST_DEGREES};
-ghost use Rattle.nichols_tensor.specs.declared.TheConstants.{LETTER_LIMIT, WORD_LIMIT};
+ghost use Rattle.std.specs.Prelude.{◌≡◌, ◌≤◌, ◌-◌, [], IfOk, OnOk, length, replicate};
+ghost use Rattle.std.specs.List.{AllByRecursion, Contains};
 ghost use Rattle.nichols_field.specs.Field.{IsElement};
-ghost use Rattle.nichols_tensor.specs.Combination.{AllElements, scaled};
-ghost use Rattle.nichols_tensor.specs.Words.{IsLetterOf, up_to};
+ghost use Rattle.nichols_tensor.specs.Combination.{scaled};
+ghost use Rattle.nichols_tensor.specs.Combination.{AllElements as AllTermsElements};
+ghost use Rattle.nichols_tensor.specs.WordOrder.{IsRising};
 ghost use Rattle.nichols_braid.specs.Braid.{IsLetter};
+ghost use Rattle.nichols_braid.specs.Forms.{derived_form};
 ghost use Rattle.nichols_braid.specs.Kernel.{is_killed};
-ghost use Rattle.nichols_braid.specs.Least.{basis, candidates, relations};
-ghost use Rattle.nichols_braid.specs.Forms.{IsTable, derived_from, followed_form, form_in};
-ghost use Rattle.nichols_block.specs.Short.{AllShort};
-ghost use Rattle.nichols_block.specs.Rule.{IsRuleOf, derived_forms};
+ghost use Rattle.nichols_braid.specs.Product.{product_before};
+ghost use Rattle.nichols_echelon.specs.Cells.{AllBelow, AllElements};
+ghost use Rattle.nichols_echelon.specs.Sums.{IsZero};
+ghost use Rattle.nichols_value.specs.Block.{lower_basis};
+ghost use Rattle.nichols_value.specs.Kept.{IsSpot};
+ghost use Rattle.nichols_value.specs.Rule.{right_in, rule_of};
+ghost use Rattle.nichols_block.specs.Lower.{AreLowerRules, IsUpperBlock};
+ghost use Rattle.nichols_block.specs.Rows.{AreNewDerivatives, AreRowsAt, AreRulesBelow, AreSpotsOf, AreSums, HasNewRow, IsRuleBelow, candidate_at, lower_words, summed_forms};
+ghost use Rattle.nichols_block.specs.Words.{block_new_words};
 
-use crate::rule::{DegreeRule, Derivatives};
+use crate::lower::{rules_below, words_below};
 use nichols_braid::Braid;
+use nichols_echelon::{Cell, Rows, Sums};
 use nichols_field::Field;
-use nichols_words::{Comb, Relation, Term, Word};
+use nichols_value::{BlockKey, BlockRule, LowerValue, Spot};
+use nichols_words::Word;
 use std::alloc::{AllocError, Global};
 
-/// Puts the terms of a multiple of a form behind the terms that are there.
-fn put_multiple(field: Field, by: u32, form: &Comb, terms: &mut Vec<Term>) -> Result<(), AllocError>
-    requires factor { IsElement field by }
-    requires form { AllElements field form.now }
-    ensures { OnOk result (terms.new.items ≡ terms.old.items ++ scaled field by form.now) }
+/// The greatest number of places.
+const MOST: usize = 0xFFFF_FFFF;
+
+/// Where a new word `u b` stands below: the letter b, and the place of u among the words of the lower block by b.
+fn spot_of(
+    braid: &Braid,
+    key: &BlockKey,
+    lower: &[LowerValue],
+    word: Word,
+) -> Result<Spot, AllocError>
+    requires block { IsUpperBlock braid.now key.now }
+    requires lower { AreLowerRules braid.now key.now lower.now }
+    requires new { Contains (block_new_words braid.now key.now.degree key.now.product) word }
+    ensures inside { IfOk result (IsSpot (lower_words braid.now key.now.degree key.now.product)) }
+    ensures word { IfOk result (λ s. candidate_at (lower_words braid.now key.now.degree key.now.product) s ≡ word) }
 {
-    for term in form.terms() {
-        terms.push(Term {
-            word: term.word,
-            coefficient: field.mul(by, term.coefficient),
-        })?;
+    let _field = braid.field();
+    let k = word.len() - 1;
+    let letter = word.letter(k);
+    let front = word.prefix(k);
+    let Ok(place) = words_below(braid, key, lower, letter).binary_search(&front) else {
+        unreachable!()
+    };
+    if place > MOST {
+        return Err(AllocError);
     }
-    Ok(())
+    Ok(Spot {
+        letter,
+        place: place as u32,
+    })
 }
 
-/// Puts a multiple of the form of a candidate behind the terms that are there: that of its relation, or the candidate
-/// itself where it has none.
-fn put_form(
-    field: Field,
-    by: u32,
-    table: &[Relation],
-    candidate: Word,
-    terms: &mut Vec<Term>,
-) -> Result<(), AllocError>
-    requires factor { IsElement field by }
-    requires table { IsTable field table.now }
-    ensures { OnOk result (terms.new.items ≡ terms.old.items ++ scaled field by (form_in table.now candidate)) }
+/// Where the new words stand below.
+fn spots_of(
+    alloc: Global,
+    braid: &Braid,
+    key: &BlockKey,
+    lower: &[LowerValue],
+    new: &[Word],
+) -> Result<Vec<Spot>, AllocError>
+    requires block { IsUpperBlock braid.now key.now }
+    requires lower { AreLowerRules braid.now key.now lower.now }
+    requires new { new.now ≡ block_new_words braid.now key.now.degree key.now.product }
+    ensures { IfOk result (λ r. AreSpotsOf braid.now key.now.degree key.now.product r.items) }
 {
-    match table.binary_search_by_key(&candidate, |relation| relation.candidate) {
-        Ok(k) => {
-            let relation = &table[k];
-            put_multiple(field, by, &relation.form, terms)
-        }
-        Err(_) => {
-            terms.push(Term {
-                word: candidate,
-                coefficient: by,
-            })?;
-            Ok(())
-        }
+    let mut spots = Vec::with_capacity(alloc, new.len())?;
+    for word in new {
+        spots.push(spot_of(braid, key, lower, *word)?)?;
     }
+    Ok(spots)
 }
 
-/// Puts a multiple of `f x_c` in normal form behind the terms that are there, where f is the form of a derivative.
-fn put_followed_form(
-    field: Field,
-    by: u32,
-    table: &[Relation],
-    form: &Comb,
+/// The rule of the lower block by a letter, if it has one.
+#[inline]
+fn rule_at<'t>(
+    braid: &Braid,
+    key: &BlockKey,
+    rules: &[Option<&'t BlockRule>],
     letter: u8,
-    terms: &mut Vec<Term>,
-) -> Result<(), AllocError>
+) -> Option<&'t BlockRule>
+    requires rules { AreRulesBelow braid.now key.now.degree key.now.product rules.now }
+    requires letter { IsLetter braid.now letter }
+    ensures { IsRuleBelow braid.now key.now.degree key.now.product letter result }
+{
+    rules[usize::from(letter) - 1]
+}
+
+/// Adds up, for each cell of a row, its coefficient times the normal form of `v c`, where v is the word at its column, all by a
+/// factor. The sums are 0 before.
+fn add_right_rows(field: Field, by: u32, cells: &[Cell], rule: &BlockRule, c: u8, sums: &mut Sums)
     requires factor { IsElement field by }
-    requires table { IsTable field table.now }
-    requires form { AllElements field form.now }
-    requires short { AllShort form.now }
-    requires letter { IsLetterOf LETTER_LIMIT letter }
-    ensures { OnOk result (terms.new.items ≡ terms.old.items ++ scaled field by (followed_form field table.now form.now letter)) }
+    requires elements { AllElements field cells.now }
+    requires rising { IsRising rule.now.basis }
+    requires letter { 1 ≤ c }
+    requires columns { AllBelow (length (right_in rule.now c)) cells.now }
+    requires forms { AllByRecursion (AllTermsElements field) (right_in rule.now c) }
+    requires zero { IsZero field sums.old }
+    requires width { length rule.now.basis ≤ length sums.old }
+    ensures sums { AreSums field rule.now.basis sums.new (scaled field by (summed_forms field (right_in rule.now c) cells.now)) }
+    ensures width { length sums.new ≡ length sums.old }
 {
-    for term in form.terms() {
-        let factor = field.mul(by, term.coefficient);
-        let candidate = term.word.followed_by(letter);
-        put_form(field, factor, table, candidate, terms)?;
+    let _modulus = field.modulus();
+    for cell in cells {
+        let row = rule.right_row(c, cell.column as usize);
+        sums.add_scaled(field, field.mul(by, cell.coefficient), row);
     }
-    Ok(())
 }
 
-/// Puts the derivative by a of `u x_b` behind the terms that are there, from the form of that of u.
-fn put_derivative(
+/// Adds up the derivative by a of the word at a spot, `u b`, from the rules of the lower blocks by a and by b. The sums are 0 before.
+fn add_derivative(
     braid: &Braid,
-    table: &[Relation],
-    u: Word,
-    form: &Comb,
+    key: &BlockKey,
+    rule: &BlockRule,
+    own: &BlockRule,
     a: u8,
-    b: u8,
-    terms: &mut Vec<Term>,
-) -> Result<(), AllocError>
-    requires table { IsTable braid.now.field table.now }
-    requires form { AllElements braid.now.field form.now }
-    requires short { AllShort form.now }
-    requires left { IsLetter braid.now a }
-    requires right { IsLetter braid.now b }
-    ensures { OnOk result (terms.new.items ≡ terms.old.items ++ derived_from braid.now table.now u form.now a b) }
+    spot: Spot,
+    sums: &mut Sums,
+)
+    requires block { IsUpperBlock braid.now key.now }
+    requires letter { IsLetter braid.now a }
+    requires last { IsLetter braid.now spot.letter }
+    requires rule { rule.now ≡ rule_of braid.now (key.now.degree - 1) (product_before braid.now a key.now.product) }
+    requires own { own.now ≡ rule_of braid.now (key.now.degree - 1) (product_before braid.now spot.letter key.now.product) }
+    requires spot { IsSpot (lower_words braid.now key.now.degree key.now.product) spot }
+    requires zero { IsZero braid.now.field sums.old }
+    requires width { length (lower_basis braid.now key.now.degree key.now.product a) ≤ length sums.old }
+    ensures sums { AreSums braid.now.field (lower_basis braid.now key.now.degree key.now.product a) sums.new
+        (derived_form is_killed braid.now key.now.degree (candidate_at (lower_words braid.now key.now.degree key.now.product) spot) a) }
+    ensures width { length sums.new ≡ length sums.old }
 {
     let field = braid.field();
-    if a == b {
-        terms.push(Term {
-            word: u,
-            coefficient: 1,
-        })?;
+    let by = braid.scalar(a, spot.letter);
+    let c = braid.act(a, spot.letter);
+    let place = spot.place as usize;
+    add_right_rows(field, by, own.derivative_row(a, place), rule, c, sums);
+    if a == spot.letter {
+        sums.put(field, place, 1);
     }
-    let by = braid.scalar(a, b);
-    let letter = braid.act(a, b);
-    put_followed_form(field, by, table, form, letter, terms)
 }
 
-/// The normal forms of the derivatives of `u x_b`, from those of the least word u.
-fn derivatives(
-    alloc: Global,
+/// Puts the row of the derivative by a of the word at a spot behind others. The sums are 0 before and after.
+fn push_derivative(
     braid: &Braid,
-    table: &[Relation],
-    u: Word,
-    forms: &[Comb],
-    b: u8,
-) -> Result<Derivatives, AllocError>
-    requires word { Contains (basis is_killed braid.now (length u)) u }
-    requires short { length u < WORD_LIMIT }
-    requires table { table.now ≡ relations is_killed braid.now (length u) }
-    requires forms { forms.now ≡ derived_forms braid.now (length u) u }
-    requires letter { IsLetter braid.now b }
-    ensures { IfOk result (λ r. r ≡ derived_forms braid.now (suc (length u)) (u ++ b ∷ [])) }
+    key: &BlockKey,
+    rules: &[Option<&BlockRule>],
+    rule: &BlockRule,
+    a: u8,
+    spot: Spot,
+    sums: &mut Sums,
+    rows: &mut Rows,
+) -> Result<(), AllocError>
+    requires block { IsUpperBlock braid.now key.now }
+    requires rules { AreRulesBelow braid.now key.now.degree key.now.product rules.now }
+    requires letter { IsLetter braid.now a }
+    requires rule { rule.now ≡ rule_of braid.now (key.now.degree - 1) (product_before braid.now a key.now.product) }
+    requires spot { IsSpot (lower_words braid.now key.now.degree key.now.product) spot }
+    requires zero { IsZero braid.now.field sums.old }
+    requires width { length (lower_basis braid.now key.now.degree key.now.product a) ≤ length sums.old }
+    requires closed { rows.old.begun ≡ [] }
+    ensures row { OnOk result (HasNewRow (lower_basis braid.now key.now.degree key.now.product a)
+        (derived_form is_killed braid.now key.now.degree (candidate_at (lower_words braid.now key.now.degree key.now.product) spot) a) rows.old rows.new) }
+    ensures zero { OnOk result (IsZero braid.now.field sums.new) }
+    ensures width { length sums.new ≡ length sums.old }
 {
     let field = braid.field();
-    let mut terms = Vec::new(alloc);
-    let mut out = Vec::new(alloc);
+    let Some(own) = rule_at(braid, key, rules, spot.letter) else {
+        unreachable!()
+    };
+    add_derivative(braid, key, rule, own, a, spot, sums);
+    sums.drain_into(field, rows)
+}
+
+/// The rows of the derivatives by a of the words at spots, where the lower block by a has a rule. The sums are 0 before and after.
+fn rows_over(
+    alloc: Global,
+    braid: &Braid,
+    key: &BlockKey,
+    rules: &[Option<&BlockRule>],
+    rule: &BlockRule,
+    a: u8,
+    spots: &[Spot],
+    sums: &mut Sums,
+) -> Result<Rows, AllocError>
+    requires block { IsUpperBlock braid.now key.now }
+    requires rules { AreRulesBelow braid.now key.now.degree key.now.product rules.now }
+    requires letter { IsLetter braid.now a }
+    requires rule { rule.now ≡ rule_of braid.now (key.now.degree - 1) (product_before braid.now a key.now.product) }
+    requires spots { AllByRecursion (IsSpot (lower_words braid.now key.now.degree key.now.product)) spots.now }
+    requires zero { IsZero braid.now.field sums.old }
+    ensures rows { IfOk result (AreRowsAt braid.now key.now.degree key.now.product spots.now a) }
+    ensures zero { OnOk result (IsZero braid.now.field sums.new) }
+{
+    let places = rule.basis().len();
+    if places > MOST {
+        return Err(AllocError);
+    }
+    sums.room(alloc, braid.field(), places)?;
+    let mut rows = Rows::new(alloc);
+    for spot in spots {
+        push_derivative(braid, key, rules, rule, a, *spot, sums, &mut rows)?;
+    }
+    Ok(rows)
+}
+
+/// So many rows with no cell.
+fn empty_rows(alloc: Global, count: usize) -> Result<Rows, AllocError>
+    ensures { IfOk result (λ r. r ≡ record { rows = replicate count []; begun = [] }) }
+{
+    let mut rows = Rows::new(alloc);
+    for _k in 0..count {
+        rows.close()?;
+    }
+    Ok(rows)
+}
+
+/// The rows of the derivatives by a of the words at spots. The sums are 0 before and after.
+fn rows_by_letter(
+    alloc: Global,
+    braid: &Braid,
+    key: &BlockKey,
+    rules: &[Option<&BlockRule>],
+    a: u8,
+    spots: &[Spot],
+    sums: &mut Sums,
+) -> Result<Rows, AllocError>
+    requires block { IsUpperBlock braid.now key.now }
+    requires rules { AreRulesBelow braid.now key.now.degree key.now.product rules.now }
+    requires letter { IsLetter braid.now a }
+    requires spots { AllByRecursion (IsSpot (lower_words braid.now key.now.degree key.now.product)) spots.now }
+    requires zero { IsZero braid.now.field sums.old }
+    ensures rows { IfOk result (AreRowsAt braid.now key.now.degree key.now.product spots.now a) }
+    ensures zero { OnOk result (IsZero braid.now.field sums.new) }
+{
+    let _field = braid.field();
+    match rule_at(braid, key, rules, a) {
+        Some(rule) => rows_over(alloc, braid, key, rules, rule, a, spots, sums),
+        None => empty_rows(alloc, spots.len()),
+    }
+}
+
+/// By letter a, from letter 1 on, the normal forms of the derivatives by a of the new words, as rows over the words of the lower
+/// block by a.
+///
+/// The derivative of `u b` by a is u, where a is b, and `q(a,b) ∂_a(u) x_{a ▷ b}` added up; the normal form of `∂_a(u)` and those
+/// of its words with the letter `a ▷ b` behind are known from the lower blocks.
+pub(crate) fn derivative_rows(
+    alloc: Global,
+    braid: &Braid,
+    key: &BlockKey,
+    lower: &[LowerValue],
+    new: &[Word],
+) -> Result<Vec<Rows>, AllocError>
+    requires block { IsUpperBlock braid.now key.now }
+    requires lower { AreLowerRules braid.now key.now lower.now }
+    requires new { new.now ≡ block_new_words braid.now key.now.degree key.now.product }
+    ensures { IfOk result (λ r. AreNewDerivatives braid.now key.now.degree key.now.product r.items) }
+{
+    let field = braid.field();
+    let spots = spots_of(alloc, braid, key, lower, new)?;
+    let rules = rules_below(alloc, braid, key, lower)?;
+    let places = spots.as_slice();
+    let found = rules.as_slice();
+    let mut sums = Sums::new(alloc, field, 0)?;
+    let mut lists = Vec::new(alloc);
     for a in 0..braid.letters() {
-        let form = &forms[usize::from(a)];
-        terms.clear();
-        put_derivative(braid, table, u, form, a + 1, b, &mut terms)?;
-        out.push(Comb::sum_of(alloc, field, terms.as_mut_slice())?)?;
+        lists.push(rows_by_letter(alloc, braid, key, found, a + 1, places, &mut sums)?)?;
     }
-    Ok(Derivatives::of(out))
-}
-
-/// Puts the normal forms of the derivatives of u with each letter behind, behind others.
-fn push_derivatives(
-    alloc: Global,
-    braid: &Braid,
-    table: &[Relation],
-    u: Word,
-    forms: &[Comb],
-    out: &mut Vec<Derivatives>,
-) -> Result<(), AllocError>
-    requires word { Contains (basis is_killed braid.now (length u)) u }
-    requires short { length u < WORD_LIMIT }
-    requires table { table.now ≡ relations is_killed braid.now (length u) }
-    requires forms { forms.now ≡ derived_forms braid.now (length u) u }
-    ensures { OnOk result (out.new.items ≡ out.old.items ++ map (λ b. derived_forms braid.now (suc (length u)) (u ++ b ∷ [])) (up_to braid.now.letters)) }
-{
-    for b in 0..braid.letters() {
-        out.push(derivatives(alloc, braid, table, u, forms, b + 1)?)?;
-    }
-    Ok(())
-}
-
-/// The normal forms of the derivatives of all candidates of the next degree, in order.
-pub(crate) fn all_derivatives(
-    alloc: Global,
-    braid: &Braid,
-    lower: &DegreeRule,
-) -> Result<Vec<Derivatives>, AllocError>
-    requires rule { IsRuleOf braid.now lower.now.degree lower.now }
-    requires degree { lower.now.degree < MOST_DEGREES }
-    ensures { IfOk result (λ r. r.items ≡ map (derived_forms braid.now (suc lower.now.degree)) (candidates is_killed braid.now (suc lower.now.degree))) }
-{
-    let table = lower.table.as_slice();
-    let derivs = lower.derivs.as_slice();
-    let mut out = Vec::new(alloc);
-    for (k, u) in lower.basis.as_slice().iter().enumerate() {
-        let own = &derivs[k];
-        push_derivatives(alloc, braid, table, *u, own.forms(), &mut out)?;
-    }
-    Ok(out)
+    Ok(lists)
 }

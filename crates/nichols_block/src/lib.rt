@@ -1,20 +1,24 @@
-//! Degrees of a Nichols algebra: its least words, the normal forms of their derivatives and its relations, each degree made
-//! from the one below by skew derivations.
+//! Blocks of a Nichols algebra, each made from the blocks below it by skew derivations: the least words of one degree and one
+//! product, the normal forms of their derivatives, and the relations between words of that product.
 //!
 //! `AllocError` says that there was no memory.
 #![tactic(auto)]
 
-mod candidates;
-mod degree;
+mod collect;
 mod derivatives;
-mod least_derivatives;
+mod forms;
 mod levels;
-mod rows;
+mod lower;
+mod lowest;
+mod making;
 mod rule;
+mod split;
+mod words;
 
-pub use degree::make_degree;
+pub use collect::lower_values;
 pub use levels::Levels;
-pub use rule::{DegreeRule, Derivatives};
+pub use making::make;
+pub use nichols_value::{BlockKey, BlockRule, BlockValue, Form, Looked, LowerValue, Shared};
 
 #[cfg(test)]
 mod tests;

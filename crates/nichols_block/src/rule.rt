@@ -1,55 +1,113 @@
-//! What is kept of a degree.
+//! The rule of a block, from those of the blocks below it.
 
-ghost use Rattle.std.specs.Prelude.{◌≡◌};
+ghost use Rattle.std.specs.Prelude.{◌≡◌, IfOk, map};
+ghost use Rattle.nichols_tensor.specs.Words.{up_to};
+ghost use Rattle.nichols_braid.specs.Braid.{IsLetter};
+ghost use Rattle.nichols_value.specs.Block.{lower_basis};
+ghost use Rattle.nichols_value.specs.Rule.{rule_of};
+ghost use Rattle.nichols_block.specs.Lower.{AreLowerRules, IsUpperBlock};
+ghost use Rattle.nichols_block.specs.Places.{ArePlacesOf};
+ghost use Rattle.nichols_block.specs.Rows.{AreLeastDerivatives, AreNewDerivatives};
 
-use nichols_words::{Comb, Relation, Word};
-use std::marker::Model;
+use crate::derivatives::derivative_rows;
+use crate::forms::{BlockForms, block_forms};
+use crate::lower::rule_below;
+use crate::split::{least_rows, places_of};
+use crate::words::{listed_words, new_words};
+use nichols_braid::Braid;
+use nichols_echelon::{Place, Rows};
+use nichols_rows::independent_words;
+use nichols_value::{BlockKey, BlockRule, LowerValue, Words};
+use std::alloc::{AllocError, Global};
 
-/// The normal forms of the skew derivatives of a word, one for each letter, from letter 1 on.
-#[derive(Drop)]
-pub struct Derivatives {
-    forms: Vec<Comb>,
-}
-
-impl Model for Derivatives {
-    ghost use Rattle.std.specs.Prelude.{List};
-    ghost use Rattle.nichols_tensor.specs.Combination.{Combination};
-
-    ghost Value = { List Combination };
-
-    ghost view = { λ d. d.forms.items };
-}
-
-impl Derivatives {
-    /// The forms as they are listed.
-    pub fn of(forms: Vec<Comb>) -> Derivatives
-        ensures { result ≡ forms.items }
-    {
-        Derivatives { forms }
+/// The least words u for which `u b` has the block's product, b being the letter, shared with the lower block.
+fn shared_below(
+    alloc: Global,
+    braid: &Braid,
+    key: &BlockKey,
+    lower: &[LowerValue],
+    letter: u8,
+) -> Result<Words, AllocError>
+    requires block { IsUpperBlock braid.now key.now }
+    requires lower { AreLowerRules braid.now key.now lower.now }
+    requires letter { IsLetter braid.now letter }
+    ensures { IfOk result (λ w. w ≡ lower_basis braid.now key.now.degree key.now.product letter) }
+{
+    match rule_below(braid, key, lower, letter) {
+        Some(rule) => rule.shared_basis(),
+        None => Words::of(alloc, Vec::new(alloc)),
     }
+}
 
-    /// The forms, by rising letter.
-    pub fn forms(&self) -> &[Comb]
-        ensures { result.now ≡ self.now }
-    {
-        self.forms.as_slice()
+/// The words of the lower blocks by letter, from letter 1 on.
+fn all_below(
+    alloc: Global,
+    braid: &Braid,
+    key: &BlockKey,
+    lower: &[LowerValue],
+) -> Result<Vec<Words>, AllocError>
+    requires block { IsUpperBlock braid.now key.now }
+    requires lower { AreLowerRules braid.now key.now lower.now }
+    ensures { IfOk result (λ r. r.items ≡ map (lower_basis braid.now key.now.degree key.now.product) (up_to braid.now.letters)) }
+{
+    let _field = braid.field();
+    let mut below = Vec::new(alloc);
+    for b in 0..braid.letters() {
+        below.push(shared_below(alloc, braid, key, lower, b + 1)?)?;
     }
+    Ok(below)
 }
 
-/// A degree of the algebra: its number, its least words, which rise, for each of them the normal forms of its derivatives in the
-/// degree below, and its relations, by rising candidates.
-#[derive(Drop)]
-pub struct DegreeRule {
-    pub degree: u32,
-    pub basis: Vec<Word>,
-    pub derivs: Vec<Derivatives>,
-    pub table: Vec<Relation>,
+/// By letter, the rows of the derivatives of the new words that are least.
+fn least_derivatives(
+    alloc: Global,
+    braid: &Braid,
+    key: &BlockKey,
+    derivs: &[Rows],
+    places: &[Place],
+) -> Result<Vec<Rows>, AllocError>
+    requires block { IsUpperBlock braid.now key.now }
+    requires derivs { AreNewDerivatives braid.now key.now.degree key.now.product derivs.now }
+    requires places { ArePlacesOf braid.now key.now.degree key.now.product places.now }
+    ensures { IfOk result (λ r. AreLeastDerivatives braid.now key.now.degree key.now.product r.items) }
+{
+    let mut least = Vec::new(alloc);
+    for own in derivs {
+        least.push(least_rows(alloc, own, places)?)?;
+    }
+    Ok(least)
 }
 
-impl Model for DegreeRule {
-    ghost use Rattle.nichols_block.specs.Rule.{PlainRule};
-
-    ghost Value = { PlainRule };
-
-    ghost view = { λ r. record { degree = r.degree; basis = r.basis.items; derivs = r.derivs.items; table = r.table.items } };
+/// The rule of a block, from the rules of its lower blocks: its new words are least, or have their normal forms, by the elimination
+/// of the rows of their derivatives; the normal forms of all other words follow from these.
+pub(crate) fn block_rule(
+    alloc: Global,
+    braid: &Braid,
+    key: &BlockKey,
+    lower: &[LowerValue],
+) -> Result<BlockRule, AllocError>
+    requires block { IsUpperBlock braid.now key.now }
+    requires lower { AreLowerRules braid.now key.now lower.now }
+    ensures { IfOk result (λ r. r ≡ rule_of braid.now key.now.degree key.now.product) }
+{
+    let _field = braid.field();
+    let listed = listed_words(alloc, braid, key, lower)?;
+    let new = new_words(alloc, braid, key, listed.as_slice())?;
+    let derived = derivative_rows(alloc, braid, key, lower, new.as_slice())?;
+    let places = places_of(alloc, braid, key, lower, derived.as_slice())?;
+    let least = independent_words(alloc, new.as_slice(), places.as_slice())?;
+    let forms = block_forms(
+        alloc,
+        braid,
+        key,
+        lower,
+        listed.as_slice(),
+        places.as_slice(),
+        least.as_slice(),
+    )?;
+    let derivs = least_derivatives(alloc, braid, key, derived.as_slice(), places.as_slice())?;
+    let below = all_below(alloc, braid, key, lower)?;
+    let basis = Words::of(alloc, least)?;
+    let BlockForms { right, left, spots } = forms;
+    Ok(BlockRule::new(*key, basis, below, right, spots, derivs, left))
 }
