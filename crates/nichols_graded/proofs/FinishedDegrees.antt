@@ -1,6 +1,6 @@
 -- Degrees over the symmetrizer, from the rules of the derivations; the end that is reached.
 use Rattle.std.proofs.Common.{◌≡◌, ℕ, suc, ◌≤◌, Bool, true, false, cond, List, [], ◌∷◌, length, map, refl, sym, ◌∙◌, ap, subst, arith, nat_lt}
-use Rattle.std.specs.Prelude.{None, Some, is_some, filter, IsTrue, ◌↔◌}
+use Rattle.std.specs.Prelude.{Option, None, Some, is_some, filter, IsTrue, ◌↔◌}
 use Rattle.std.specs.List.{Contains}
 use Rattle.std.proofs.lemmas.Bool.Decides.{Decides-eqb, nat_tests}
 use Rattle.std.proofs.lemmas.List.{nil_from_length}
@@ -8,40 +8,23 @@ use Rattle.nichols_tensor.specs.Words.{words}
 use Rattle.nichols_braid.specs.declared.TheConstants.{MOST_DEGREES, MOST_ROWS}
 use Rattle.nichols_braid.specs.Braid.{BraidValue, IsBraid}
 use Rattle.nichols_braid.specs.Kernel.{is_in_kernel, is_killed}
-use Rattle.nichols_braid.specs.Least.{basis, candidates, relations}
+use Rattle.nichols_braid.specs.Least.{basis, candidates}
 use Rattle.nichols_braid.specs.Product.{product_of, has_product}
 use Rattle.nichols_braid.specs.Products.{each_once, products, rows}
 use Rattle.nichols_braid.specs.End.{dimension, is_empty_degree}
 use Rattle.nichols_braid.proofs.EndLaws.{in_finished}
 use Rattle.nichols_braid.proofs.FirstDegree.{basis_first}
 use Rattle.nichols_lift.proofs.Readings.{one_reading}
-use Rattle.nichols_block.specs.Rule.{PlainRule, rule_of}
 use Rattle.nichols_graded.specs.declared.ahead.Ahead.{Ahead}
 use Rattle.nichols_graded.specs.declared.ahead.Ahead.TheVariants as ahead
 use Rattle.nichols_graded.specs.declared.ends.End.TheVariants.{Stopped}
 use Rattle.nichols_graded.specs.declared.ends.Stop.{Stop}
 use Rattle.nichols_graded.specs.declared.ends.Stop.TheVariants.{Rows}
 use Rattle.nichols_graded.specs.Ends.{rows_stop, rows_of_products, stops_at, finished_degrees, end_reached}
-use Rattle.nichols_graded.specs.Graded.{GradedValue, IsGraded, IsAhead, end_known}
+use Rattle.nichols_block.specs.Levels.{LevelsValue}
+use Rattle.nichols_graded.specs.declared.ends.End.{End}
+use Rattle.nichols_graded.specs.Graded.{GradedValue, IsGraded, IsAhead, end_known, graded_value}
 use Rattle.nichols_graded.proofs.EndLaws.{stop_by_rows, free_is_within, free_if_finished, next_is_finished, end_closed, end_stopped, end_none}
-
-pub rule_degree : (braid : BraidValue) (m : ℕ) (rule : PlainRule) → rule ≡ rule_of braid m → rule.degree ≡ m
-unfolding rule_of
-rule_degree braid m rule e = ap (λ r. r.degree) e
-
-pub rule_basis : (braid : BraidValue) → IsBraid braid → (m : ℕ) (rule : PlainRule) → rule ≡ rule_of braid m → rule.basis ≡ basis is_in_kernel braid m
-unfolding rule_of
-rule_basis braid is m rule e = ap (λ r. r.basis) e ∙ sym ((one_reading braid is).alike.bases m)
-
-pub rule_relations : (braid : BraidValue) → IsBraid braid → (m : ℕ) (rule : PlainRule) → rule ≡ rule_of braid m → rule.table ≡ relations is_in_kernel braid m
-unfolding rule_of
-rule_relations braid is m rule e = ap (λ r. r.table) e ∙ sym ((one_reading braid is).alike.relation_lists m)
-
-pub same_rule : (a b : BraidValue) (m : ℕ) (rule : PlainRule) → a ≡ b → rule ≡ rule_of a m → rule ≡ rule_of b rule.degree
-same_rule a b m rule same e = e ∙ ap (λ x. rule_of x m) same ∙ ap (rule_of b) (sym (rule_degree a m rule e))
-
-pub next_rule : (a b : BraidValue) (m : ℕ) (lower rule : PlainRule) → a ≡ b → lower ≡ rule_of a m → rule ≡ rule_of b (suc lower.degree) → rule ≡ rule_of a (suc m)
-next_rule a b m lower rule same l e = e ∙ ap (λ x. rule_of x (suc lower.degree)) (sym same) ∙ ap (λ n. rule_of a (suc n)) (rule_degree a m lower l)
 
 -- ---- empty degrees
 
@@ -165,3 +148,28 @@ open_ahead braid limit rows_limit m next ps e known = subst (IsAhead braid limit
 
 pub same_ahead : (a b : BraidValue) (limit rows_limit m n : ℕ) (next : Ahead) → a ≡ b → m ≡ n → IsAhead a limit rows_limit (suc m) next → IsAhead b limit rows_limit (suc n) next
 same_ahead a b limit rows_limit m n next same e known = subst (λ k. IsAhead b limit rows_limit (suc k) next) e (subst (λ x. IsAhead x limit rows_limit (suc m) next) same known)
+
+-- ---- the next degree on top
+
+-- what holds of levels with the next degree on top: their braid and last degree, what is known of the degree after it, and the end
+pub record IsOnTop (g : GradedValue) (levels : LevelsValue) (next : Ahead) (ended : Bool) (end : Option End) : Type 0 where
+  pub graded : IsGraded (graded_value levels g.limit g.rows ended)
+  pub ahead : IsAhead levels.braid g.limit g.rows (suc levels.last) next
+  pub end_is : end ≡ end_reached levels.braid g.limit g.rows levels.last
+
+pub on_top : (g : GradedValue) (levels : LevelsValue) (next : Ahead) (ended : Bool) (e : Option End) → IsGraded g → g.ended ≡ false → stops_at g.braid g.limit g.rows (suc g.last) ≡ None → levels.braid ≡ g.braid → levels.last ≡ suc g.last →
+    IsAhead g.braid g.limit g.rows (suc (suc g.last)) next → e ≡ end_known (is_empty_degree is_in_kernel levels.braid levels.last) next → ended ≡ is_some e → IsOnTop g levels next ended e
+on_top g levels next ended e h going free braid last ahead e_is ended_is =
+    let ended_known : ended ≡ is_some (end_known (is_empty_degree is_in_kernel g.braid (suc g.last)) next) =
+    ended_is ∙ ap is_some (e_is ∙ ap (λ b. end_known (is_empty_degree is_in_kernel b levels.last) next) braid ∙ ap (λ m. end_known (is_empty_degree is_in_kernel g.braid m) next) last) in
+    let there : IsAhead levels.braid g.limit g.rows (suc levels.last) next = same_ahead g.braid levels.braid g.limit g.rows (suc g.last) levels.last next (sym braid) (sym last) ahead in
+    record {
+      graded =
+          subst (λ b. IsGraded (record { braid = b; limit = g.limit; rows = g.rows; last = levels.last; ended = ended })) (sym braid)
+          (subst (λ m. IsGraded (record { braid = g.braid; limit = g.limit; rows = g.rows; last = m; ended = ended })) (sym last)
+          (subst (λ b. IsGraded (record { braid = g.braid; limit = g.limit; rows = g.rows; last = suc g.last; ended = b })) (sym ended_known) (graded_next g next h going free)));
+      ahead = there;
+      end_is =
+          e_is ∙ known_end levels.braid g.limit g.rows levels.last next h.most
+          (subst (λ b. Contains (finished_degrees b g.limit g.rows) levels.last) (sym braid) (subst (Contains (finished_degrees g.braid g.limit g.rows)) (sym last) (next_finished g h going free))) there;
+    }

@@ -3,13 +3,12 @@
 ghost use Rattle.std.specs.Prelude.{◌≡◌, ◌≤◌, IfOk, length, suc};
 ghost use Rattle.nichols_braid.specs.declared.TheConstants.{MOST_DEGREES, MOST_PRODUCTS};
 ghost use Rattle.nichols_braid.specs.Products.{products};
-ghost use Rattle.nichols_block.specs.Rule.{IsRuleOf};
 ghost use Rattle.nichols_graded.specs.Ends.{rows_stop};
 ghost use Rattle.nichols_graded.specs.Graded.{IsAhead};
+ghost use Rattle.nichols_graded.specs.Rows.{AreSizes};
 
 use crate::counts::row_counts;
 use crate::ends::Stop;
-use nichols_block::DegreeRule;
 use nichols_braid::{Braid, Products, ProductsFault};
 use std::alloc::{AllocError, Global};
 
@@ -39,35 +38,36 @@ fn first_over(counts: &[u64], degree: u32, limit: u32) -> Option<Stop>
     None
 }
 
-/// What is known of the degree after that of a rule, from the rule and the products of its degree.
+/// What is known of the degree after one, from the products of that degree and the numbers of least words of its blocks.
 ///
 /// Products are listed only where the degree limit allows the degree, and candidates are counted only where the products aren't
 /// too many.
 pub(crate) fn look_ahead(
     alloc: Global,
     braid: &Braid,
-    rule: &DegreeRule,
+    degree: u32,
     below: &Products,
+    sizes: &[u64],
     degree_limit: u32,
     rows_limit: u32,
 ) -> Result<Ahead, AllocError>
-    requires rule { IsRuleOf braid.now rule.now.degree rule.now }
-    requires products { below.now ≡ products braid.now rule.now.degree }
-    requires degree { rule.now.degree ≤ MOST_DEGREES }
-    ensures { IfOk result (IsAhead braid.now degree_limit rows_limit (suc rule.now.degree)) }
+    requires products { below.now ≡ products braid.now degree }
+    requires sizes { AreSizes braid.now degree sizes.now }
+    requires degree { degree ≤ MOST_DEGREES }
+    ensures { IfOk result (IsAhead braid.now degree_limit rows_limit (suc degree)) }
 {
     let _braid = braid.field();
-    let degree = rule.degree + 1;
-    if degree_limit < degree {
+    let above = degree + 1;
+    if degree_limit < above {
         return Ok(Ahead::Stopped(Stop::DegreeLimit));
     }
     let next = match below.next(alloc, braid) {
         Ok(next) => next,
-        Err(ProductsFault::Wide) => return Ok(Ahead::Stopped(Stop::Wide(degree))),
+        Err(ProductsFault::Wide) => return Ok(Ahead::Stopped(Stop::Wide(above))),
         Err(ProductsFault::Memory) => return Err(AllocError),
     };
-    let counts = row_counts(alloc, braid, rule.basis.as_slice(), &next)?;
-    match first_over(counts.as_slice(), degree, rows_limit) {
+    let counts = row_counts(alloc, braid, degree, below, sizes, &next)?;
+    match first_over(counts.as_slice(), above, rows_limit) {
         Some(stop) => Ok(Ahead::Stopped(stop)),
         None => Ok(Ahead::Open(next)),
     }

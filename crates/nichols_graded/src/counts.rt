@@ -1,61 +1,96 @@
 //! The number of candidates of each product.
 
-ghost use Rattle.std.specs.Prelude.{◌≡◌, ◌<◌, ◌≤◌, ◌+◌, ◌++◌, ◌∷◌, ◌^◌, ℕ, List, [], IfOk, length, map, slice_index};
-ghost use Rattle.nichols_tensor.specs.declared.TheConstants.{LETTER_LIMIT};
-ghost use Rattle.nichols_tensor.specs.Positions.{word_at};
-ghost use Rattle.nichols_tensor.specs.Words.{IsWordOver, up_to, with_letters};
-ghost use Rattle.nichols_braid.specs.Product.{product_of};
-ghost use Rattle.nichols_graded.specs.Rows.{counted};
+ghost use Rattle.std.specs.Prelude.{◌≡◌, ◌<◌, ◌≤◌, ◌^◌, ℕ, IfOk, length, map, slice_index, suc};
+ghost use Rattle.nichols_braid.specs.Kernel.{is_killed};
+ghost use Rattle.nichols_braid.specs.Product.{product_before};
+ghost use Rattle.nichols_braid.specs.Products.{products, rows};
+ghost use Rattle.nichols_value.specs.Block.{block_basis};
+ghost use Rattle.nichols_value.specs.Worth.{worth};
+ghost use Rattle.nichols_graded.specs.Rows.{AreSizes, size_of};
 
+use nichols_block::{BlockValue, Shared};
 use nichols_braid::{Braid, Product, Products};
-use nichols_words::Word;
 use std::alloc::{AllocError, Global};
 
-/// The product of a word.
-fn product_of(braid: &Braid, word: &[u8]) -> Product
-    requires { IsWordOver braid.now.letters word.now }
-    ensures { result ≡ product_of braid.now word.now }
+/// The number of least words of a block, where the value is its rule.
+fn size_of(value: &Shared) -> u64
+    ensures value { result ≡ size_of (worth value.now) }
+    ensures small { result < 2 ^ 57 }
 {
-    let _braid = braid.field();
-    let mut product = Product::identity(braid.letters());
-    for k in 0..word.len() {
-        product = product.times(braid, word[k]);
+    match value.get() {
+        Some(BlockValue::Rule(rule)) => rule.basis().len() as u64,
+        _ => 0,
     }
-    product
 }
 
-/// Counts the words that follow a word of this product by one letter.
-fn count_followed(braid: &Braid, product: &Product, products: &Products, counts: &mut [u64])
-    requires letters { length product.now ≡ braid.now.letters }
-    requires long { length counts.old ≡ length products.now }
-    requires room { (k : ℕ) → slice_index counts.old k + LETTER_LIMIT < 2 ^ 64 }
-    ensures counted { (w : List ℕ) (ws : List (List ℕ)) → IsWordOver braid.now.letters w → product.now ≡ product_of braid.now w → counts.old ≡ counted braid.now products.now ws →
-        counts.new ≡ counted braid.now products.now (ws ++ map (λ a. w ++ a ∷ []) (up_to braid.now.letters)) }
-    ensures room { (k : ℕ) → slice_index counts.new k ≤ slice_index counts.old k + LETTER_LIMIT }
+/// The numbers of least words of blocks.
+pub(crate) fn sizes_of(alloc: Global, values: &[Shared]) -> Result<Vec<u64>, AllocError>
+    ensures sizes { IfOk result (λ r. r.items ≡ map (λ v. size_of (worth v)) values.now) }
+    ensures small { IfOk result (λ r. (k : ℕ) → slice_index r.items k < 2 ^ 57) }
+{
+    let mut sizes = Vec::new(alloc);
+    for value in values {
+        sizes.push(size_of(value))?;
+    }
+    Ok(sizes)
+}
+
+/// The number of least words of the block of a degree and the product before a letter, by the numbers of all blocks of the degree.
+fn size_before(
+    braid: &Braid,
+    degree: u32,
+    below: &Products,
+    sizes: &[u64],
+    product: &Product,
+    letter: u8,
+) -> u64
+    requires products { below.now ≡ products braid.now degree }
+    requires sizes { AreSizes braid.now degree sizes.now }
+    requires product { length product.now ≡ braid.now.letters }
+    requires some { 1 ≤ letter }
+    requires most { letter ≤ braid.now.letters }
+    ensures value { result ≡ length (block_basis braid.now degree (product_before braid.now letter product.now)) }
+    ensures small { result < 2 ^ 57 }
+{
+    match below.find(&product.back(braid, letter)) {
+        Some(k) => sizes[k],
+        None => 0,
+    }
+}
+
+/// The number of candidates of a product in the degree after one, by the numbers of least words of that degree's blocks: each least
+/// word of the block before a letter makes one with that letter behind.
+fn row_count(braid: &Braid, degree: u32, below: &Products, sizes: &[u64], product: &Product) -> u64
+    requires products { below.now ≡ products braid.now degree }
+    requires sizes { AreSizes braid.now degree sizes.now }
+    requires product { length product.now ≡ braid.now.letters }
+    ensures { result ≡ rows is_killed braid.now (suc degree) product.now }
 {
     let _braid = braid.field();
-    let _products = products.len();
+    let mut count = 0;
     for a in 0..braid.letters() {
-        if let Some(k) = products.find(&product.times(braid, a + 1)) {
-            counts[k] += 1;
-        }
+        count += size_before(braid, degree, below, sizes, product, a + 1);
     }
+    count
 }
 
-/// How many of the words that follow these by one letter have each product.
+/// The number of candidates of each product of the degree after one.
 pub(crate) fn row_counts(
     alloc: Global,
     braid: &Braid,
-    words: &[Word],
-    products: &Products,
+    degree: u32,
+    below: &Products,
+    sizes: &[u64],
+    next: &Products,
 ) -> Result<Vec<u64>, AllocError>
-    requires { (k : ℕ) → k < length words.now → IsWordOver braid.now.letters (word_at words.now k) }
-    ensures { IfOk result (λ r. r.items ≡ counted braid.now products.now (with_letters braid.now.letters words.now)) }
+    requires products { below.now ≡ products braid.now degree }
+    requires sizes { AreSizes braid.now degree sizes.now }
+    requires next { next.now ≡ products braid.now (suc degree) }
+    ensures { IfOk result (λ r. r.items ≡ map (rows is_killed braid.now (suc degree)) next.now) }
 {
-    let mut counts = vec![in alloc; 0u64; products.len()]?;
-    for i in 0..words.len() {
-        let product = product_of(braid, words[i].letters());
-        count_followed(braid, &product, products, counts.as_mut_slice());
+    let mut counts = Vec::new(alloc);
+    for k in 0..next.len() {
+        counts.push(row_count(braid, degree, below, sizes, next.at(k)))?;
     }
     Ok(counts)
 }

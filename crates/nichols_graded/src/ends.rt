@@ -25,6 +25,8 @@ pub enum End {
     Closed,
     /// No further degree is made.
     Stopped(Stop),
+    /// There was no memory for a block of the next degree.
+    Starved,
 }
 
 /// What one call made.

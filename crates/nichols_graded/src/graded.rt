@@ -1,22 +1,29 @@
 //! Graded algebras.
 
-ghost use Rattle.std.specs.Prelude.{◌≡◌, ◌≤◌, ◌<◌, ◌+◌, ◌^◌, IfOk, OnOk, OnErr, None, Some, false, true, suc, is_some, option_map, sum};
+ghost use Rattle.std.specs.Prelude.{◌≡◌, ◌≤◌, ◌<◌, ◌+◌, ◌^◌, IfOk, IsOk, OnOk, OnErr, None, Some, false, true, suc, is_some, map, option_map, sum};
 ghost use Rattle.nichols_braid.specs.declared.TheConstants.{MOST_DEGREES, MOST_ROWS};
 ghost use Rattle.nichols_braid.specs.Kernel.{is_in_kernel};
 ghost use Rattle.nichols_braid.specs.Least.{basis, relations};
 ghost use Rattle.nichols_braid.specs.End.{dimension, is_empty_degree};
-ghost use Rattle.nichols_graded.specs.Ends.{dimensions_up_to, end_reached};
+ghost use Rattle.nichols_value.specs.declared.value.BlockValue.TheVariants.{Rule};
+ghost use Rattle.nichols_value.specs.Worth.{worth};
+ghost use Rattle.nichols_block.specs.Levels.{rules_of};
+ghost use Rattle.nichols_graded.specs.Ends.{dimensions_up_to};
 ghost use Rattle.nichols_graded.specs.Factors.{factors_of};
-ghost use Rattle.nichols_graded.specs.Graded.{end_known, first_degree, IsGraded};
+ghost use Rattle.nichols_graded.specs.Graded.{end_known, first_degree, IsGraded, IsOpen, TellsEnd};
 
-use crate::ahead::{Ahead, look_ahead};
+use crate::ahead::Ahead;
 use crate::ends::{Advance, End};
 use crate::factors::factors_of;
-use nichols_block::{Levels, make_degree};
-use nichols_braid::{Braid, Products};
+use crate::merged::{degree_relations, least_words};
+use crate::next::{NextDegree, first_ahead, next_degree};
+use nichols_block::{Levels, Shared};
+use nichols_braid::Braid;
 use nichols_words::{Relation, Word};
 use std::alloc::{AllocError, Global};
 use std::marker::Model;
+use std::mem;
+use std::thread::Threads;
 
 /// The Nichols algebra of a braid, as far as its degrees are finished.
 #[derive(Drop)]
@@ -55,15 +62,7 @@ impl Graded {
     {
         let _field = braid.field();
         let levels = Levels::start(alloc, braid)?;
-        let products = Products::first(alloc, levels.braid())?;
-        let ahead = look_ahead(
-            alloc,
-            levels.braid(),
-            levels.rule(0),
-            &products,
-            degree_limit,
-            rows_limit,
-        )?;
+        let ahead = first_ahead(alloc, &levels, degree_limit, rows_limit)?;
         Ok(Graded {
             levels,
             degree_limit,
@@ -73,19 +72,26 @@ impl Graded {
         })
     }
 
-    /// Finishes the next degree, where nothing stops it, and says whether the end is reached.
+    /// Finishes the next degree, where nothing stops it, and says whether the end is reached. Its blocks are made by so many workers.
     ///
     /// The end is given in the call in which the last degree is finished; where degree 1 is stopped, so that degree 0 is the only
-    /// one, in the first call. After an error the algebra is as it was, and the call may be made again.
-    pub fn advance(&mut self, alloc: Global) -> Result<Advance, AllocError>
-        requires { self.old.ended ≡ false }
+    /// one, in the first call. `Starved` is given where there was no memory for a block of the next degree, which isn't finished then.
+    /// After an error the algebra is as it was, and the call may be made again.
+    pub fn advance<R: Threads + Sync>(
+        &mut self,
+        rt: &R,
+        alloc: Global,
+        workers: u32,
+    ) -> Result<Advance, AllocError>
+        requires going { self.old.ended ≡ false }
+        requires some_workers { 1 ≤ workers }
         ensures braid { OnOk result (self.new.braid ≡ self.old.braid) }
         ensures limit { OnOk result (self.new.limit ≡ self.old.limit) }
         ensures rows { OnOk result (self.new.rows ≡ self.old.rows) }
         ensures finished { IfOk result (λ a. self.new.last ≡ self.old.last + a.finished) }
         ensures one { IfOk result (λ a. a.finished ≤ 1) }
         ensures further { IfOk result (λ a. a.end ≡ None → a.finished ≡ 1) }
-        ensures end { IfOk result (λ a. a.end ≡ end_reached self.new.braid self.new.limit self.new.rows self.new.last) }
+        ensures end { IfOk result (λ a. TellsEnd self.new a.finished a.end) }
         ensures ended { IfOk result (λ a. self.new.ended ≡ is_some a.end) }
         ensures kept { OnErr result (self.new ≡ self.old) }
     {
@@ -97,22 +103,32 @@ impl Graded {
                 return Ok(Advance { finished: 0, end });
             }
         };
-        let braid = self.levels.braid();
-        let last = self.levels.last();
-        let rule = make_degree(alloc, braid, self.levels.rule(last))?;
-        let ahead = look_ahead(
+        let next = next_degree(
+            rt,
             alloc,
-            braid,
-            &rule,
+            &self.levels,
             products,
             self.degree_limit,
             self.rows_limit,
+            workers,
         )?;
-        self.levels.push(rule)?;
-        let end = end_of_levels(&self.levels, &ahead);
-        self.ended = end.is_some();
-        self.ahead = ahead;
-        Ok(Advance { finished: 1, end })
+        match next {
+            None => {
+                self.ended = true;
+                Ok(Advance {
+                    finished: 0,
+                    end: Some(End::Starved),
+                })
+            }
+            Some(NextDegree { values, ahead }) => {
+                self.levels.reserve(1)?;
+                let reached = mem::replace(&mut self.ahead, ahead);
+                put_on(&mut self.levels, reached, values)?;
+                let end = end_of_levels(&self.levels, &self.ahead);
+                self.ended = end.is_some();
+                Ok(Advance { finished: 1, end })
+            }
+        }
     }
 
     /// Whether the end was reached.
@@ -144,7 +160,12 @@ impl Graded {
         ensures value { result ≡ dimension is_in_kernel self.now.braid m }
         ensures small { result < 2 ^ 57 }
     {
-        self.basis(m).len() as u64
+        let _levels = self.levels();
+        let mut words = 0;
+        for k in 0..self.levels.products(m).len() {
+            words += self.levels.rule(m, k).basis().len() as u64;
+        }
+        words
     }
 
     /// The dimensions of the finished degrees, from degree 0 on.
@@ -171,19 +192,34 @@ impl Graded {
     }
 
     /// The least words of a finished degree, rising.
-    pub fn basis(&self, m: u32) -> &[Word]
+    pub fn basis(&self, alloc: Global, m: u32) -> Result<Vec<Word>, AllocError>
         requires { m ≤ self.now.last }
-        ensures { result.now ≡ basis is_in_kernel self.now.braid m }
+        ensures { IfOk result (λ r. r.items ≡ basis is_in_kernel self.now.braid m) }
     {
-        self.levels.rule(m).basis.as_slice()
+        least_words(alloc, &self.levels, m)
     }
 
     /// The relations of a finished degree, with rising candidates.
-    pub fn relations(&self, m: u32) -> &[Relation]
+    pub fn relations(&self, alloc: Global, m: u32) -> Result<Vec<Relation>, AllocError>
         requires { m ≤ self.now.last }
-        ensures { result.now ≡ relations is_in_kernel self.now.braid m }
+        ensures { IfOk result (λ r. r.items ≡ relations is_in_kernel self.now.braid m) }
     {
-        self.levels.rule(m).table.as_slice()
+        degree_relations(alloc, &self.levels, m)
+    }
+}
+
+/// Puts the next degree, which is open, on top.
+fn put_on(levels: &mut Levels, next: Ahead, values: Vec<Shared>) -> Result<(), AllocError>
+    requires room { levels.old.last < MOST_DEGREES }
+    requires open { IsOpen levels.old.braid (suc levels.old.last) next }
+    requires rules { map worth values.items ≡ map Rule (rules_of levels.old.braid (suc levels.old.last)) }
+    ensures braid { levels.new.braid ≡ levels.old.braid }
+    ensures pushed { OnOk result (levels.new.last ≡ suc levels.old.last) }
+    ensures in_room { 1 ≤ levels.old.spare → IsOk result }
+{
+    match next {
+        Ahead::Open(products) => levels.push(products, values),
+        Ahead::Stopped(_) => unreachable!(),
     }
 }
 

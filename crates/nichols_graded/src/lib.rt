@@ -4,11 +4,14 @@
 #![tactic(auto)]
 
 mod ahead;
+mod blocks;
 mod counts;
 mod ends;
 mod factors;
 mod graded;
 pub mod laws;
+mod merged;
+mod next;
 
 pub use ends::{Advance, End, Stop};
 pub use graded::Graded;

@@ -4,6 +4,10 @@ use nichols_braid::{Braid, MOST_ROWS, Scalars};
 use nichols_field::Field;
 use std::alloc::Global;
 use std::test::Fail;
+use std::thread::Threads;
+
+/// The workers of these tests.
+const WORKERS: u32 = 2;
 
 /// The braid of a rack over p elements with one scalar at all places.
 fn constant(alloc: Global, p: i64, rack: &[Vec<i64>], scalar: i64) -> Result<Braid, Fail> {
@@ -55,13 +59,13 @@ fn degrees_of_one_letter(rt: HostRuntime) -> Result<(), Fail> {
         if graded.ended() {
             return Err("ended early".into());
         }
-        let advance = graded.advance(alloc)?;
+        let advance = graded.advance(&rt, alloc, WORKERS)?;
         assert_eq!(rt; advance.finished, 1);
         assert_eq!(rt; advance.end, end);
         let last = graded.levels().last();
         assert_eq!(rt; graded.dimension(last), dimension);
-        assert_eq!(rt; graded.basis(last).len() as u64, dimension);
-        assert_eq!(rt; graded.relations(last).len(), relations);
+        assert_eq!(rt; graded.basis(alloc, last)?.len() as u64, dimension);
+        assert_eq!(rt; graded.relations(alloc, last)?.len(), relations);
     }
     assert!(rt; graded.ended());
     if !graded.closed() {
@@ -75,7 +79,8 @@ fn degrees_of_one_letter(rt: HostRuntime) -> Result<(), Fail> {
 }
 
 /// Makes degrees until the end, and compares the end and the dimensions.
-fn ends(
+fn ends<R: Threads + Sync>(
+    rt: &R,
     alloc: Global,
     braid: Braid,
     limits: (u32, u32),
@@ -90,7 +95,7 @@ fn ends(
         if graded.ended() {
             break;
         }
-        let advance = graded.advance(alloc)?;
+        let advance = graded.advance(rt, alloc, WORKERS)?;
         if advance.end.is_some() && advance.end != Some(end) {
             return Err("another end".into());
         }
@@ -114,11 +119,19 @@ fn limits(rt: HostRuntime) -> Result<(), Fail> {
         product: 1,
         count,
     });
-    ends(alloc, one_letter(alloc)?, (0, 1_024), &[1], degrees)?;
-    ends(alloc, one_letter(alloc)?, (1, 1_024), &[1, 1], degrees)?;
-    ends(alloc, two_letters(alloc)?, (12, 1), &[1], rows(1, 2))?;
-    ends(alloc, two_letters(alloc)?, (12, 5), &[1, 2, 3], rows(3, 6))?;
+    ends(&rt, alloc, one_letter(alloc)?, (0, 1_024), &[1], degrees)?;
+    ends(&rt, alloc, one_letter(alloc)?, (1, 1_024), &[1, 1], degrees)?;
+    ends(&rt, alloc, two_letters(alloc)?, (12, 1), &[1], rows(1, 2))?;
     ends(
+        &rt,
+        alloc,
+        two_letters(alloc)?,
+        (12, 5),
+        &[1, 2, 3],
+        rows(3, 6),
+    )?;
+    ends(
+        &rt,
         alloc,
         two_letters(alloc)?,
         (12, 6),
@@ -133,6 +146,7 @@ fn wide(rt: HostRuntime) -> Result<(), Fail> {
     let alloc = rt.alloc();
     let braid = eight_groups(alloc)?;
     ends(
+        &rt,
         alloc,
         braid,
         (12, 1_024),

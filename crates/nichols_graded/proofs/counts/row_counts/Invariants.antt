@@ -1,11 +1,7 @@
-use Rattle.std.proofs.Common.{◌≡◌, ℕ, ◌*◌, ◌≤◌, take, get_or}
-use Rattle.nichols_tensor.specs.declared.TheConstants.{LETTER_LIMIT}
-use Rattle.nichols_tensor.specs.Words.{with_letters}
-use Rattle.nichols_graded.specs.Rows.{counted}
+use Rattle.std.proofs.Common.{◌≡◌, map, take, suc}
+use Rattle.nichols_braid.specs.Kernel.{is_killed}
+use Rattle.nichols_braid.specs.Products.{rows}
 use Rattle.nichols_graded.proofs.counts.row_counts.Given as goal
 
-abbrev pub invariant-loop-i : goal.invariant-loop-i
-invariant-loop-i l = record {
-  counted : l.counts.items ≡ counted l.braid l.products (with_letters l.braid.letters (take l.i l.words));
-  room : (k : ℕ) → get_or l.counts.items k 0 ≤ l.i * LETTER_LIMIT;
-}
+abbrev pub invariant-loop-k : goal.invariant-loop-k
+invariant-loop-k l = l.counts.items ≡ map (rows is_killed l.braid (suc l.degree)) (take l.k l.next)

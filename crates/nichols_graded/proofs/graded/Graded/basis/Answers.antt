@@ -1,10 +1,13 @@
-use Rattle.std.proofs.Common.{◌∙◌, ap}
-use Rattle.nichols_braid.specs.Kernel.{is_in_kernel}
+use Rattle.std.proofs.Common.{◌≡◌, sym, ◌∙◌, ap, subst}
+use Rattle.std.specs.Prelude.{IfOk}
+use Rattle.nichols_braid.specs.Kernel.{is_in_kernel, is_killed}
 use Rattle.nichols_braid.specs.Least.{basis}
-use Rattle.nichols_graded.proofs.FinishedDegrees.{rule_basis}
+use Rattle.nichols_lift.proofs.Readings.{one_reading}
 use Rattle.nichols_graded.proofs.graded.Graded.basis.Goals as goal
 
 pub returns : goal.returns
 returns c =
-    let rule = rule_basis c.self.inside.levels.braid c.self.invariant.0.braid c.args.m c.rule.result.now c.rule.ensures.rule in
-    c.as_slice.ensures.value ∙ ap (λ r. r.basis) c.behind-self.view_is ∙ rule ∙ ap (λ g. basis is_in_kernel g.braid c.args.m) c.self.view_is
+    let braid : c.self.inside.levels.braid ≡ c.args.self.now.braid = ap (λ g. g.braid) c.self.view_is in
+    let alike : basis is_killed c.self.inside.levels.braid c.args.m ≡ basis is_in_kernel c.args.self.now.braid c.args.m =
+    sym ((one_reading c.self.inside.levels.braid c.self.invariant.0.braid).alike.bases c.args.m) ∙ ap (λ b. basis is_in_kernel b c.args.m) braid in
+    subst (λ ws. IfOk c.least_words.result (λ r. r.items ≡ ws)) alike c.least_words.ensures

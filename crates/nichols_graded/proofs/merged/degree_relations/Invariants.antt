@@ -1,0 +1,7 @@
+use Rattle.std.proofs.Common.{◌≡◌, flat_map, take}
+use Rattle.nichols_braid.specs.Products.{products}
+use Rattle.nichols_value.specs.Block.{block_relations}
+use Rattle.nichols_graded.proofs.merged.degree_relations.Given as goal
+
+abbrev pub invariant-loop-k : goal.invariant-loop-k
+invariant-loop-k l = l.relations.items ≡ flat_map (block_relations l.levels.braid l.m) (take l.k (products l.levels.braid l.m))
