@@ -1,8 +1,7 @@
 -- Sums over the words of a basis: their combinations, and how they grow.
-use Rattle.std.proofs.Common.{◌≡◌, ℕ, zero, suc, ◌+◌, ◌<◌, ◌≤◌, Bool, true, false, not, nat_eq, cond, List, [], ◌∷◌, ◌++◌, length, get_or, set, take, replicate, refl, sym, ◌∙◌, ap, ap₂, subst, arith, append_assoc, Ok, inl, inr}
-use Rattle.std.specs.List.Sorted.{IsBinarySearchResult, IsSearchInRange}
+use Rattle.std.proofs.Common.{◌≡◌, ℕ, zero, suc, ◌+◌, ◌<◌, ◌≤◌, Bool, true, false, not, nat_eq, cond, List, [], ◌∷◌, ◌++◌, length, get_or, set, take, replicate, refl, sym, ◌∙◌, ap, ap₂, arith, append_assoc, inl, inr}
 use Rattle.std.proofs.lemmas.Bool.Decides.{eqb_tells}
-use Rattle.std.proofs.lemmas.List.{append-nil, map-append, map-id, take_more, take_all, length-set}
+use Rattle.std.proofs.lemmas.List.{append-nil, map-append, take_more, take_all}
 use Rattle.std.proofs.lemmas.List.Elements.{filter-append}
 use Rattle.nichols_field.specs.Field.{FieldValue, IsField, IsElement, plus, times, settled}
 use Rattle.nichols_field.proofs.FieldLaws.{plus_comm, plus_assoc, plus_zero, times_is_element, zero_is_element}
@@ -11,8 +10,6 @@ use Rattle.nichols_field.proofs.Pending.{settled_zero}
 use Rattle.nichols_tensor.specs.Combination.{Term, Combination, value_at, same_letters, HasSameValues, IsZero, scaled, without_zeros}
 use Rattle.nichols_tensor.proofs.Values.{value_at-append, value_at-scaled}
 use Rattle.nichols_tensor.proofs.Linear.{same_append}
-use Rattle.nichols_tensor.specs.WordOrder.{word_cmp, IsRising}
-use Rattle.nichols_block.proofs.Searching.{search_says}
 use Rattle.nichols_reduce.specs.Sums.{combination_of, HasGrownBy}
 
 -- ---- the combination of sums
@@ -103,21 +100,6 @@ grown_by_next k is ws a b c by f i t less at h j =
 pub no_multiple : (k : FieldValue) → IsField k → (f : Combination) → IsZero k (scaled k 0 f)
 no_multiple k is f v = value_at-scaled k is 0 f v ∙ zero_times k (value_at k f v) is
 
--- a multiple of a term at the place that a search for its word found
-pub grown_at_word : (k : FieldValue) → IsField k → (ws : List (List ℕ)) → IsRising ws → (sums : List ℕ) (i x by c : ℕ) (w : List ℕ) → IsSearchInRange (Ok i) (length ws) → IsBinarySearchResult (λ (v : List ℕ). word_cmp v w) ws (Ok i) →
-    length sums ≡ length ws → settled k x ≡ plus k (settled k (get_or sums i 0)) (times k by c) → HasGrownBy k ws sums (record { word = w; coefficient = times k by c } ∷ []) (set sums i x)
-grown_at_word k is ws rising sums i x by c w within found e here =
-    grown_by_term k is ws sums i x by c w [] within e (length-set sums i x) here (search_says (λ (v : List ℕ). v) ws w (Ok i) (subst IsRising (sym (map-id ws)) rising) within found [])
-
--- a multiple of the sum at one more place
-pub grown_by_sum : (k : FieldValue) → IsField k → (ws : List (List ℕ)) (more a sums : List ℕ) (i x by c : ℕ) → length more ≡ length ws → length sums ≡ length ws → i < length ws → c ≡ settled k (get_or more i 0) → settled k x ≡ plus k (settled k (get_or sums i 0)) (times k by c) →
-    HasGrownBy k ws a (scaled k by (take i (combination_of k ws more))) sums → HasGrownBy k ws a (scaled k by (take (i + 1) (combination_of k ws more))) (set sums i x)
-grown_by_sum k is ws more a sums i x by c em es less c_is here h =
-    let t : Term = record { word = get_or ws i []; coefficient = c } in
-    let at : t ≡ get_or (combination_of k ws more) i t = ap (λ n. record { word = get_or ws i []; coefficient = n }) c_is ∙ sym (combination_at k ws more i t [] em less) in
-    grown_by_next k is ws a sums (set sums i x) by (combination_of k ws more) i t (omega (arith, combination_length k ws more em)) at h
-    (grown_by_term k is ws sums i x by c (get_or ws i []) [] less es (length-set sums i x) here refl)
-
 -- all of them
 pub taken_whole : (k : FieldValue) (ws : List (List ℕ)) (sums : List ℕ) (i : ℕ) → length sums ≡ length ws → length ws ≤ i → take i (combination_of k ws sums) ≡ combination_of k ws sums
 taken_whole k ws sums i e past = take_all i (combination_of k ws sums) (omega (arith, combination_length k ws sums e))
@@ -134,13 +116,16 @@ term_kept w c other =
 pub term_dropped : (w : List ℕ) (c : ℕ) → c ≡ 0 → without_zeros (record { word = w; coefficient = c } ∷ []) ≡ []
 term_dropped w c e = ap (λ n. without_zeros (record { word = w; coefficient = n } ∷ [])) e
 
-pub terms_more : (k : FieldValue) (ws : List (List ℕ)) (sums : List ℕ) (i : ℕ) (before items after : Combination) (w : List ℕ) (c : ℕ) → length sums ≡ length ws → i < length ws → w ≡ get_or ws i w → c ≡ settled k (get_or sums i 0) →
-    items ≡ before ++ without_zeros (take i (combination_of k ws sums)) → after ≡ items ++ without_zeros (record { word = w; coefficient = c } ∷ []) → after ≡ before ++ without_zeros (take (i + 1) (combination_of k ws sums))
-terms_more k ws sums i before items after w c e less w_is c_is first rest =
-    let t : Term = record { word = w; coefficient = c } in
-    let at : t ≡ get_or (combination_of k ws sums) i t = ap₂ (λ u n. record { word = u; coefficient = n }) w_is c_is ∙ sym (combination_at k ws sums i t w e less) in
-    rest ∙ ap (λ g. g ++ without_zeros (t ∷ [])) first ∙ append_assoc before (without_zeros (take i (combination_of k ws sums))) (without_zeros (t ∷ []))
-    ∙ ap (λ g. before ++ g)
-    (sym (filter-append (λ (u : Term). not (nat_eq u.coefficient 0)) (take i (combination_of k ws sums)) (t ∷ []))
-    ∙ ap (λ u. without_zeros (take i (combination_of k ws sums) ++ u ∷ [])) at
-    ∙ ap without_zeros (sym (take_more (combination_of k ws sums) i t (omega (arith, combination_length k ws sums e)))))
+-- the terms of a multiple, one more
+pub terms_more : (k : FieldValue) (by : ℕ) (ws : List (List ℕ)) (sums : List ℕ) (i : ℕ) (before items after : Combination) (w : List ℕ) (c : ℕ) → length sums ≡ length ws → i < length ws → w ≡ get_or ws i w → c ≡ times k by (settled k (get_or sums i 0)) →
+    items ≡ before ++ without_zeros (scaled k by (take i (combination_of k ws sums))) → after ≡ items ++ without_zeros (record { word = w; coefficient = c } ∷ []) → after ≡ before ++ without_zeros (scaled k by (take (i + 1) (combination_of k ws sums)))
+terms_more k by ws sums i before items after w c e less w_is c_is first rest =
+    let f : Combination = combination_of k ws sums in
+    let u : Term = record { word = w; coefficient = settled k (get_or sums i 0) } in
+    let at : u ≡ get_or f i u = ap (λ v. record { word = v; coefficient = settled k (get_or sums i 0) }) w_is ∙ sym (combination_at k ws sums i u w e less) in
+    let multiple : Term → Term = λ t. record { word = t.word; coefficient = times k by t.coefficient } in
+    let more : scaled k by (take (i + 1) f) ≡ scaled k by (take i f) ++ record { word = w; coefficient = c } ∷ [] =
+    ap (scaled k by) (take_more f i u (omega (arith, combination_length k ws sums e)) ∙ ap (λ t. take i f ++ t ∷ []) (sym at)) ∙ map-append multiple (take i f) (u ∷ [])
+    ∙ ap (λ n. scaled k by (take i f) ++ record { word = w; coefficient = n } ∷ []) (sym c_is) in
+    rest ∙ ap (λ g. g ++ without_zeros (record { word = w; coefficient = c } ∷ [])) first ∙ append_assoc before (without_zeros (scaled k by (take i f))) (without_zeros (record { word = w; coefficient = c } ∷ []))
+    ∙ ap (λ g. before ++ g) (sym (filter-append (λ (t : Term). not (nat_eq t.coefficient 0)) (scaled k by (take i f)) (record { word = w; coefficient = c } ∷ [])) ∙ ap without_zeros (sym more))

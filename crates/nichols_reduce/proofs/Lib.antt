@@ -1,7 +1,8 @@
 pub mod Growing
 pub mod Longest
-pub mod CandidateForms
+pub mod RowForms
 pub mod WordForms
 pub mod PartForms
 pub mod Wholes
 pub mod ReduceLaws
+pub mod WholeLevels

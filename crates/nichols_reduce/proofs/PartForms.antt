@@ -1,137 +1,127 @@
--- The normal forms of the parts of a combination, as sums over bases.
-use Rattle.std.proofs.Common.{◌≡◌, ◌≢◌, ℕ, zero, suc, ◌+◌, ◌<◌, cond, nat_eq, List, [], ◌∷◌, ◌++◌, length, get_or, take, replicate, refl, sym, ◌∙◌, ap, ap₂, subst, arith, flat_map, inl, inr}
-use Rattle.std.specs.List.{AllByRecursion, range_with_len}
-use Rattle.std.proofs.lemmas.Bool.Decides.{Decides-eqb, eqb_tells}
-use Rattle.std.proofs.lemmas.Grind.{flat_map-append}
-use Rattle.std.proofs.lemmas.List.{append-nil, map-id, take_more, length-replicate}
-use Rattle.std.proofs.lemmas.List.FromFn.{map-range_with_len_more}
+-- The normal form of a combination, term by term.
+use Rattle.std.proofs.Common.{◌≡◌, ℕ, zero, suc, ◌+◌, ◌<◌, ◌≤◌, false, List, [], ◌∷◌, ◌++◌, length, get_or, take, refl, sym, ◌∙◌, ap, ap₂, subst, arith, inr}
+use Rattle.std.specs.List.{AllByRecursion}
+use Rattle.std.proofs.lemmas.List.{append-nil, take_more}
 use Rattle.nichols_field.specs.Field.{FieldValue, IsField, IsElement}
 use Rattle.nichols_field.proofs.FieldLaws.{times_one}
-use Rattle.nichols_field.proofs.Pending.{settled_is_element}
-use Rattle.nichols_tensor.specs.Combination.{Term, Combination, value_at, AllElements, words_of, single, scaled, without_zeros}
-use Rattle.nichols_tensor.specs.Parts.{part_of_degree}
-use Rattle.nichols_tensor.specs.Words.{IsWordOver, IsOver, HasDegree}
-use Rattle.nichols_tensor.specs.WordOrder.{IsRising}
-use Rattle.nichols_tensor.proofs.Building.{value_at-without_zeros, all-without_zeros, ordered-without_zeros}
-use Rattle.nichols_tensor.proofs.Linear.{same_append, same_scaled}
+use Rattle.nichols_tensor.specs.Combination.{Term, Combination, value_at, AllAmong, AllElements, HasSameValues, single, scaled, extended, without_zeros}
+use Rattle.nichols_tensor.specs.Parts.{longest}
+use Rattle.nichols_tensor.specs.Words.{IsOver, IsWordOver}
+use Rattle.nichols_tensor.specs.WordOrder.{IsOrdered}
+use Rattle.nichols_tensor.proofs.Building.{elements-append, elements-multiple, value_at-without_zeros}
+use Rattle.nichols_tensor.proofs.Linear.{extended-append, same_append, same_scaled}
 use Rattle.nichols_tensor.proofs.Ordered.{ordered_unique}
-use Rattle.nichols_tensor.proofs.Parts.{part-append, degree-part, over-part}
 use Rattle.nichols_braid.specs.Braid.{BraidValue, IsBraid}
 use Rattle.nichols_braid.specs.Kernel.{is_killed}
-use Rattle.nichols_braid.specs.Least.{basis, normal_form}
-use Rattle.nichols_braid.specs.LeastLaws.{IsNormalForm, IsLinearOnDegree}
-use Rattle.nichols_braid.proofs.BraidLaws.{killed_is_linear}
-use Rattle.nichols_braid.proofs.NormalForms.{form_is_normal, form_is_linear, form_of_zero}
-use Rattle.nichols_braid.proofs.Reduction.{basis_rises}
-use Rattle.nichols_reduce.specs.Sums.{combination_of, HasGrownBy}
-use Rattle.nichols_reduce.specs.Forms.{IsSumOf, IsFormOf}
-use Rattle.nichols_reduce.proofs.Growing.{zeros_are_zero}
+use Rattle.nichols_braid.specs.Least.{basis}
+use Rattle.nichols_braid.specs.LeastLaws.{IsNormalForm}
+use Rattle.nichols_braid.specs.Product.{product_of}
+use Rattle.nichols_braid.specs.WholeForm.{normal_form_by_parts}
+use Rattle.nichols_braid.specs.WholeLaws.{HasFormByParts}
+use Rattle.nichols_braid.proofs.BraidLaws.{killed_is_linear, killed_is_ideal_from_right}
+use Rattle.nichols_braid.proofs.NormalForms.{form_is_normal, form_of_zero}
+use Rattle.nichols_braid.proofs.Prefixes.{stays_empty}
+use Rattle.nichols_braid.proofs.WholeForms.{normal_forms_by_parts}
+use Rattle.nichols_value.specs.Block.{block_basis}
+use Rattle.nichols_reduce.specs.Forms.{IsFormOf, form_of}
+use Rattle.nichols_reduce.specs.Laws.{IsLinearForm}
+use Rattle.nichols_reduce.specs.Normal.{is_beyond}
+use Rattle.nichols_reduce.specs.Sums.{combination_of}
+use Rattle.nichols_reduce.proofs.ReduceLaws.{forms_are_linear}
+use Rattle.nichols_reduce.proofs.Wholes.{empty_where_long, nothing_among}
+
+-- ---- the form of a whole is the sum of those of its words
+
+whole_of : (braid : BraidValue) → IsBraid braid → (f : Combination) → IsOver braid.letters f → HasFormByParts is_killed braid f
+whole_of braid is f over = normal_forms_by_parts is_killed braid is.field (killed_is_linear braid is) f over
+
+-- a term
+whole_of_term : (braid : BraidValue) → IsBraid braid → (t : Term) → IsWordOver braid.letters t.word → IsElement braid.field t.coefficient → HasSameValues braid.field (normal_form_by_parts is_killed braid (t ∷ [])) (scaled braid.field t.coefficient (form_of braid t.word))
+whole_of_term braid is t over element v =
+    let k : FieldValue = braid.field in
+    let linear : IsLinearForm is_killed braid = forms_are_linear is_killed braid is (inr refl) in
+    ap (λ n. value_at k (normal_form_by_parts is_killed braid (record { word = t.word; coefficient = n } ∷ [])) v) (sym (times_one k t.coefficient element))
+    ∙ linear.multiples t.coefficient (single t.word) (over, tt) v
+    ∙ ap (λ f. value_at k (scaled k t.coefficient f) v) ((whole_of braid is (single t.word) (over, tt)).degree (length t.word) (refl, tt))
+
+pub whole_by_words : (braid : BraidValue) → IsBraid braid → (f : Combination) → IsOver braid.letters f → AllElements braid.field f → HasSameValues braid.field (normal_form_by_parts is_killed braid f) (extended braid.field (form_of braid) f)
+whole_by_words braid is [] over elements v =
+    ap (λ f. value_at braid.field f v) ((whole_of braid is [] tt).degree 0 tt ∙ form_of_zero is_killed braid is.field 0 (killed_is_linear braid is 0) [] (killed_is_linear braid is 0).holds_of_zero)
+whole_by_words braid is (t ∷ f) over elements v =
+    (forms_are_linear is_killed braid is (inr refl)).sums (t ∷ []) f (over.0, tt) over.1 v
+    ∙ same_append braid.field is.field (normal_form_by_parts is_killed braid (t ∷ [])) (normal_form_by_parts is_killed braid f) (scaled braid.field t.coefficient (form_of braid t.word)) (extended braid.field (form_of braid) f)
+    (whole_of_term braid is t over.0 elements.0) (whole_by_words braid is f over.1 elements.1) v
+
+-- terms in order with these values are the form
+pub whole_is : (braid : BraidValue) → IsBraid braid → (f g h : Combination) → IsOver braid.letters f → AllElements braid.field f → HasSameValues braid.field g (extended braid.field (form_of braid) f) → HasSameValues braid.field h g → IsOrdered h → AllElements braid.field h →
+    h ≡ normal_form_by_parts is_killed braid f
+whole_is braid is f g h over elements same own ordered h_elements =
+    let n : HasFormByParts is_killed braid f = whole_of braid is f over in
+    ordered_unique braid.field is.field h (normal_form_by_parts is_killed braid f) h_elements n.normal.elements ordered n.normal.ordered (λ v. own v ∙ same v ∙ sym (whole_by_words braid is f over elements v))
 
 -- ---- one term more
 
--- 0 at each place stands for the normal form of zero
-pub sum_of_none : (braid : BraidValue) → IsBraid braid → (m : ℕ) (sums : List ℕ) (n : ℕ) → sums ≡ replicate n 0 → n ≡ length (basis is_killed braid m) → IsSumOf braid m [] sums
-sum_of_none braid is m sums n e count = record {
-  width = ap length e ∙ length-replicate n 0 ∙ count;
-  values = λ v.
-      ap (λ ns. value_at braid.field (combination_of braid.field (basis is_killed braid m) ns) v) e ∙ zeros_are_zero braid.field is.field (basis is_killed braid m) n v
-      ∙ ap (λ f. value_at braid.field f v) (sym (form_of_zero is_killed braid is.field m (killed_is_linear braid is m) [] (killed_is_linear braid is m).holds_of_zero));
-}
-
--- the part of a combination with one term more
-part_with : (m : ℕ) (f : Combination) (i : ℕ) (t : Term) → i < length f → t ≡ get_or f i t → part_of_degree m (take (i + 1) f) ≡ part_of_degree m (take i f) ++ part_of_degree m (t ∷ [])
-part_with m f i t less at =
-    ap (part_of_degree m) (take_more f i t less ∙ ap (λ u. take i f ++ u ∷ []) (sym at)) ∙ part-append (λ w. nat_eq (length w) m) (take i f) (t ∷ [])
-
-pub sum_without : (braid : BraidValue) (m : ℕ) (f : Combination) (i : ℕ) (t : Term) (sums new : List ℕ) → i < length f → t ≡ get_or f i t → length t.word ≢ m → new ≡ sums → IsSumOf braid m (part_of_degree m (take i f)) sums → IsSumOf braid m (part_of_degree m (take (i + 1) f)) new
-sum_without braid m f i t sums new less at other same h =
-    let none : part_of_degree m (t ∷ []) ≡ [] = elim (eqb_tells (length t.word) m) [ inl here ↦ absurd (other here.1) | inr apart ↦ ap (λ b. cond b (t ∷ []) []) apart.0 ] in
-    subst (IsSumOf braid m (part_of_degree m (take (i + 1) f))) (sym same)
-    (subst (λ g. IsSumOf braid m g sums) (sym (part_with m f i t less at ∙ ap (λ g. part_of_degree m (take i f) ++ g) none ∙ append-nil (part_of_degree m (take i f)))) h)
-
--- a multiple of the form of a word of degree m more
-sum_with_word : (braid : BraidValue) → IsBraid braid → (m : ℕ) (g : Combination) (t : Term) (sums form new : List ℕ) → length t.word ≡ m → IsWordOver braid.letters t.word → IsElement braid.field t.coefficient → HasDegree m g → IsOver braid.letters g → IsSumOf braid m g sums →
-    IsSumOf braid m (single t.word) form → HasGrownBy braid.field (basis is_killed braid m) sums (scaled braid.field t.coefficient (combination_of braid.field (basis is_killed braid m) form)) new → IsSumOf braid m (g ++ t ∷ []) new
-sum_with_word braid is m g t sums form new size over element degree letters h formed grown = record {
-  width = grown.width;
-  values = λ v.
-      grown.values v
-      ∙ same_append k is.field (comb sums) (scaled k t.coefficient (comb form)) (nf g) (scaled k t.coefficient (nf (single t.word))) h.values (same_scaled k is.field t.coefficient (comb form) (nf (single t.word)) formed.values) v
-      ∙ same_append k is.field (nf g) (scaled k t.coefficient (nf (single t.word))) (nf g) (nf (scaled k t.coefficient (single t.word))) (λ u. refl) (λ u. sym (linear.multiples t.coefficient (single t.word) (size, tt) (over, tt) u)) v
-      ∙ sym (linear.sums g (scaled k t.coefficient (single t.word)) degree letters (size, tt) (over, tt) v)
-      ∙ ap (λ n. value_at k (nf (g ++ record { word = t.word; coefficient = n } ∷ [])) v) (times_one k t.coefficient element);
-}
+-- what holds of each entry holds of that at a place
+pub entry_at : (P : Term → Type 0) (f : Combination) (i : ℕ) (t : Term) → AllByRecursion P f → i < length f → t ≡ get_or f i t → P t
+entry_at P f i t h less at = subst P (sym at) (of f i h less)
   where
-    k : FieldValue
-    k = braid.field
+    of : (g : Combination) (j : ℕ) → AllByRecursion P g → j < length g → P (get_or g j t)
+    of [] j h less = absurd (omega arith)
+    of (u ∷ g) zero h less = h.0
+    of (u ∷ g) (suc j) h less = of g j h.1 (omega arith)
 
-    comb : List ℕ → Combination
-    comb ns = combination_of braid.field (basis is_killed braid m) ns
+-- the images of one term more
+words_more : (k : FieldValue) (image : List ℕ → Combination) (f : Combination) (i : ℕ) (t : Term) → i < length f → t ≡ get_or f i t → extended k image (take (i + 1) f) ≡ extended k image (take i f) ++ scaled k t.coefficient (image t.word)
+words_more k image f i t less at =
+    ap (extended k image) (take_more f i t less ∙ ap (λ u. take i f ++ u ∷ []) (sym at))
+    ∙ extended-append k image (take i f) (t ∷ []) ∙ ap (λ g. extended k image (take i f) ++ g) (append-nil (scaled k t.coefficient (image t.word)))
 
-    nf : Combination → Combination
-    nf f = normal_form is_killed braid m f
+pub sum_with : (k : FieldValue) → IsField k → (image : List ℕ → Combination) (f : Combination) (i : ℕ) (t : Term) (sum more new : Combination) → i < length f → t ≡ get_or f i t → HasSameValues k sum (extended k image (take i f)) →
+    HasSameValues k more (sum ++ scaled k t.coefficient (image t.word)) → HasSameValues k new more → HasSameValues k new (extended k image (take (i + 1) f))
+sum_with k is image f i t sum more new less at h grown gathered v =
+    gathered v ∙ grown v
+    ∙ same_append k is sum (scaled k t.coefficient (image t.word)) (extended k image (take i f)) (scaled k t.coefficient (image t.word)) h (λ u. refl) v
+    ∙ ap (λ g. value_at k g v) (sym (words_more k image f i t less at))
 
-    linear : IsLinearOnDegree is_killed braid m
-    linear = form_is_linear is_killed braid is.field m (killed_is_linear braid is m)
+-- ---- words that are too long
 
--- what holds of each entry holds of that at a place, and of the first ones
-entry_at : (P : Term → Type 0) (f : Combination) (i : ℕ) (d : Term) → AllByRecursion P f → i < length f → P (get_or f i d)
-entry_at P [] i d h less = absurd (omega arith)
-entry_at P (u ∷ f) zero d h less = h.0
-entry_at P (u ∷ f) (suc i) d h less = entry_at P f i d h.1 (omega arith)
+longest_at : (f : Combination) (i : ℕ) (d : Term) → i < length f → length (get_or f i d).word ≤ longest f
+unfolding longest
+longest_at [] i d less = absurd (omega arith)
+longest_at (u ∷ f) zero d less = omega arith
+longest_at (u ∷ f) (suc i) d less = let h : length (get_or f i d).word ≤ longest f = longest_at f i d (omega arith) in omega (arith, h)
 
-entries_before : (P : Term → Type 0) (f : Combination) (i : ℕ) → AllByRecursion P f → AllByRecursion P (take i f)
-entries_before P f zero h = tt
-entries_before P [] (suc i) h = tt
-entries_before P (u ∷ f) (suc i) h = (h.0, entries_before P f i h.1)
+form_of_long : (braid : BraidValue) → IsBraid braid → (last : ℕ) (w : List ℕ) → IsWordOver braid.letters w → last < length w → basis is_killed braid last ≡ [] → form_of braid w ≡ []
+form_of_long braid is last w over less none =
+    let n : IsNormalForm is_killed braid (length w) (single w) (form_of braid w) = form_is_normal is_killed braid is.field (length w) (killed_is_linear braid is (length w)) (single w) (refl, tt) (over, tt) in
+    nothing_among (form_of braid w) (subst (AllAmong (form_of braid w)) (stays_empty braid is.field is_killed (killed_is_ideal_from_right braid is) last (length w) (omega arith) none) n.least)
 
-pub sum_with : (braid : BraidValue) → IsBraid braid → (k : FieldValue) → k ≡ braid.field → (m : ℕ) (us : List (List ℕ)) → us ≡ basis is_killed braid m → (f : Combination) (i : ℕ) (t d : Term) (sums form new : List ℕ) → i < length f → t ≡ get_or f i t → d ≡ t → length t.word ≡ m →
-    IsOver braid.letters f → AllElements braid.field f → IsSumOf braid m (part_of_degree m (take i f)) sums → IsFormOf braid t.word form →
-    HasGrownBy k us sums (scaled k d.coefficient (combination_of k us form)) new → IsSumOf braid m (part_of_degree m (take (i + 1) f)) new
-sum_with braid is k field m us words f i t d sums form new less at view size over elements h formed grown =
-    let here : part_of_degree m (t ∷ []) ≡ t ∷ [] = ap (λ b. cond b (t ∷ []) []) ((Decides-eqb (length t.word) m).1 size) in
-    subst (λ g. IsSumOf braid m g new) (sym (part_with m f i t less at ∙ ap (λ g. part_of_degree m (take i f) ++ g) here))
-    (sum_with_word braid is m (part_of_degree m (take i f)) t sums form new size
-    (subst (λ (u : Term). IsWordOver braid.letters u.word) (sym at) (entry_at (λ u. IsWordOver braid.letters u.word) f i t over less))
-    (subst (λ (u : Term). IsElement braid.field u.coefficient) (sym at) (entry_at (λ u. IsElement braid.field u.coefficient) f i t elements less))
-    (degree-part m (take i f)) (over-part braid.letters (λ w. nat_eq (length w) m) (take i f) (entries_before (λ u. IsWordOver braid.letters u.word) f i over)) h
-    (subst (λ n. IsSumOf braid n (single t.word) form) size formed)
-    (subst (λ l. HasGrownBy l (basis is_killed braid m) sums (scaled l t.coefficient (combination_of l (basis is_killed braid m) form)) new) field
-    (subst (λ vs. HasGrownBy k vs sums (scaled k t.coefficient (combination_of k vs form)) new) words
-    (subst (λ (u : Term). HasGrownBy k us sums (scaled k u.coefficient (combination_of k us form)) new) view grown))))
+-- a word that is longer than the last degree adds nothing
+pub sum_without : (braid : BraidValue) → IsBraid braid → (last : ℕ) (f : Combination) (i : ℕ) (t : Term) (sum new : Combination) → IsOver braid.letters f → is_beyond braid last f ≡ false → i < length f → t ≡ get_or f i t → last < length t.word →
+    HasSameValues braid.field sum (extended braid.field (form_of braid) (take i f)) → HasSameValues braid.field new sum → HasSameValues braid.field new (extended braid.field (form_of braid) (take (i + 1) f))
+sum_without braid is last f i t sum new over within less at long h gathered =
+    let most : length (get_or f i t).word ≤ longest f = longest_at f i t less in
+    let size : length t.word ≡ length (get_or f i t).word = ap (λ (u : Term). length u.word) at in
+    let none : form_of braid t.word ≡ [] = form_of_long braid is last t.word (entry_at (λ (u : Term). IsWordOver braid.letters u.word) f i t over less at) long (empty_where_long braid last f within (omega (arith, most, size, long))) in
+    sum_with braid.field is.field (form_of braid) f i t sum sum new less at h
+    (λ v. ap (λ g. value_at braid.field g v) (sym (ap (λ g. sum ++ scaled braid.field t.coefficient g) none ∙ append-nil sum))) gathered
 
--- ---- the terms of the sums
+-- ---- the terms of a form
 
-combination_words : (k : FieldValue) (ws : List (List ℕ)) (sums : List ℕ) → length sums ≡ length ws → words_of (combination_of k ws sums) ≡ ws
-unfolding combination_of
-combination_words k [] sums e = refl
-combination_words k (w ∷ ws) [] e = absurd (omega arith)
-combination_words k (w ∷ ws) (n ∷ sums) e = ap (λ vs. w ∷ vs) (combination_words k ws sums (omega arith))
+-- the same terms, as they are written elsewhere
+pub same_terms : (k l : FieldValue) → l ≡ k → (ws us : List (List ℕ)) → us ≡ ws → (ms ns : List ℕ) → ms ≡ ns → (by : ℕ) (old new : Combination) → new ≡ old ++ without_zeros (scaled l by (combination_of l us ms)) → new ≡ old ++ without_zeros (scaled k by (combination_of k ws ns))
+same_terms k l field ws us words ms ns sums by old new e =
+    e ∙ ap (λ h. old ++ without_zeros (scaled h by (combination_of h us ms))) field ∙ ap₂ (λ vs xs. old ++ without_zeros (scaled k by (combination_of k vs xs))) words sums
 
-combination_elements : (k : FieldValue) → IsField k → (ws : List (List ℕ)) (sums : List ℕ) → AllElements k (combination_of k ws sums)
-unfolding combination_of
-combination_elements k is [] sums = tt
-combination_elements k is (w ∷ ws) [] = tt
-combination_elements k is (w ∷ ws) (n ∷ sums) = (settled_is_element k n is, combination_elements k is ws sums)
-
-pub terms_of_sum : (braid : BraidValue) → IsBraid braid → (m : ℕ) (f : Combination) (sums : List ℕ) → IsOver braid.letters f → IsSumOf braid m (part_of_degree m f) sums →
-    without_zeros (combination_of braid.field (basis is_killed braid m) sums) ≡ normal_form is_killed braid m (part_of_degree m f)
-terms_of_sum braid is m f sums over h =
+-- the sums of a word's form, as terms, are a multiple of the form
+pub values_of_form : (braid : BraidValue) → IsBraid braid → (w : List ℕ) (by : ℕ) (sums : List ℕ) (old new : Combination) → IsFormOf braid w sums →
+    new ≡ old ++ without_zeros (scaled braid.field by (combination_of braid.field (block_basis braid (length w) (product_of braid w)) sums)) → HasSameValues braid.field new (old ++ scaled braid.field by (form_of braid w))
+values_of_form braid is w by sums old new formed e v =
     let k : FieldValue = braid.field in
-    let comb : Combination = combination_of braid.field (basis is_killed braid m) sums in
-    let n : IsNormalForm is_killed braid m (part_of_degree m f) (normal_form is_killed braid m (part_of_degree m f)) =
-    form_is_normal is_killed braid is.field m (killed_is_linear braid is m) (part_of_degree m f) (degree-part m f) (over-part braid.letters (λ w. nat_eq (length w) m) f over) in
-    ordered_unique k is.field (without_zeros comb) (normal_form is_killed braid m (part_of_degree m f)) (all-without_zeros (λ t. IsElement k t.coefficient) comb (combination_elements k is.field (basis is_killed braid m) sums)) n.elements
-    (ordered-without_zeros comb (subst IsRising (sym (combination_words k (basis is_killed braid m) sums h.width)) (basis_rises is_killed braid m))) n.ordered
-    (λ v. value_at-without_zeros k is.field comb v ∙ h.values v)
+    let f : Combination = combination_of k (block_basis braid (length w) (product_of braid w)) sums in
+    ap (λ g. value_at k g v) e
+    ∙ same_append k is.field old (without_zeros (scaled k by f)) old (scaled k by (form_of braid w)) (λ u. refl)
+    (λ u. value_at-without_zeros k is.field (scaled k by f) u ∙ same_scaled k is.field by f (form_of braid w) formed.values u) v
 
--- the forms of one degree more
-pub forms_more : (braid : BraidValue) → IsBraid braid → (k : FieldValue) → k ≡ braid.field → (m : ℕ) (us : List (List ℕ)) → us ≡ basis is_killed braid m → (f : Combination) (sums : List ℕ) (out more : Combination) → IsOver braid.letters f → IsSumOf braid m (part_of_degree m f) sums →
-    out ≡ flat_map (λ n. normal_form is_killed braid n (part_of_degree n f)) (range_with_len 0 m) → more ≡ out ++ without_zeros (combination_of k us sums) →
-    more ≡ flat_map (λ n. normal_form is_killed braid n (part_of_degree n f)) (range_with_len 0 (m + 1))
-forms_more braid is k field m us words f sums out more over h before put =
-    let g : ℕ → Combination = λ n. normal_form is_killed braid n (part_of_degree n f) in
-    put ∙ ap₂ (λ xs ys. xs ++ ys) before (ap₂ (λ l vs. without_zeros (combination_of l vs sums)) field words ∙ terms_of_sum braid is m f sums over h ∙ sym (append-nil (g m)))
-    ∙ sym
-    (ap (flat_map g) (sym (map-id (range_with_len 0 (m + 1))) ∙ map-range_with_len_more (λ (n : ℕ). n) 0 m m (omega arith) ∙ ap (λ ns. ns ++ m ∷ []) (map-id (range_with_len 0 m)))
-    ∙ flat_map-append g (range_with_len 0 m) (m ∷ []))
+pub elements_with : (k : FieldValue) → IsField k → (by : ℕ) (f old new : Combination) → AllElements k old → new ≡ old ++ without_zeros (scaled k by f) → AllElements k new
+elements_with k is by f old new h e = subst (AllElements k) (sym e) (elements-append k old (without_zeros (scaled k by f)) h (elements-multiple k is by f))

@@ -1,13 +1,11 @@
 -- The normal form of a combination, from those of its parts up to the last degree that is made.
-use Rattle.std.proofs.Common.{◌≡◌, ℕ, zero, suc, ◌+◌, ◌<◌, ◌≤◌, ◌↔◌, IsTrue, Bool, true, false, not, nat_eq, nat_lt, min, List, [], ◌∷◌, ◌++◌, length, refl, sym, ◌∙◌, ap, ap₂, subst, arith, flat_map, inl, inr}
+use Rattle.std.proofs.Common.{◌≡◌, ℕ, zero, suc, ◌+◌, ◌<◌, ◌≤◌, ◌↔◌, IsTrue, Bool, true, false, not, nat_eq, nat_lt, List, [], ◌∷◌, ◌++◌, length, refl, sym, ◌∙◌, ap, ap₂, subst, arith, flat_map, inl, inr}
 use Rattle.std.specs.Prelude.{◌&&◌, if◌then◌else◌}
 use Rattle.std.specs.List.{range_with_len}
-use Rattle.std.proofs.lemmas.Bool.{cases_lt}
 use Rattle.std.proofs.lemmas.Bool.Decides.{Decides-eqb, Decides-ltb, eqb_tells}
 use Rattle.nichols_tensor.specs.Combination.{Combination, AllAmong}
-use Rattle.nichols_tensor.specs.Parts.{part_of_degree, longest, degrees_of}
+use Rattle.nichols_tensor.specs.Parts.{part_of_degree, longest}
 use Rattle.nichols_tensor.specs.Words.{IsOver}
-use Rattle.nichols_tensor.specs.WordOrder.{IsOrdered}
 use Rattle.nichols_tensor.proofs.Entries.{contains_none}
 use Rattle.nichols_tensor.proofs.Parts.{degree-part, over-part}
 use Rattle.nichols_braid.specs.Braid.{BraidValue, IsBraid}
@@ -17,10 +15,7 @@ use Rattle.nichols_braid.specs.Least.{basis, normal_form}
 use Rattle.nichols_braid.specs.LeastLaws.{IsNormalForm}
 use Rattle.nichols_braid.specs.LinearTest.{IsLinearTest}
 use Rattle.nichols_braid.specs.WholeForm.{normal_form_by_parts}
-use Rattle.nichols_braid.proofs.BraidLaws.{killed_is_linear, killed_is_ideal_from_right}
 use Rattle.nichols_braid.proofs.NormalForms.{form_is_normal}
-use Rattle.nichols_braid.proofs.Prefixes.{stays_empty}
-use Rattle.nichols_braid.proofs.WholeForms.{normal_forms_by_parts}
 use Rattle.nichols_reduce.specs.Normal.{is_beyond, normal_of}
 use Rattle.nichols_reduce.specs.declared.answer.Normal.TheVariants.{Form, Beyond}
 
@@ -53,7 +48,7 @@ beyond_short braid last n f n_is more = not_less last n more ∙ ap (λ b. b && 
 
 -- ---- degrees that are empty
 
-nothing_among : (f : Combination) → AllAmong f [] → f ≡ []
+pub nothing_among : (f : Combination) → AllAmong f [] → f ≡ []
 unfolding AllAmong
 nothing_among [] h = refl
 nothing_among (t ∷ f) h = absurd (contains_none t.word h.0)
@@ -68,12 +63,7 @@ pub nothing_from : (g : ℕ → Combination) (a n : ℕ) → ((j : ℕ) → a �
 nothing_from g a zero h = refl
 nothing_from g a (suc n) h = ap₂ (λ x y. x ++ y) (h a (omega arith)) (nothing_from g (a + 1) n (λ j less. h j (omega arith)))
 
-cut_short : (g : ℕ → Combination) (a n all : ℕ) → n ≤ all → ((j : ℕ) → a + n ≤ j → g j ≡ []) → flat_map g (range_with_len a n) ≡ flat_map g (range_with_len a all)
-cut_short g a zero all less h = sym (nothing_from g a all (λ j more. h j (omega arith)))
-cut_short g a (suc n) zero less h = absurd (omega arith)
-cut_short g a (suc n) (suc all) less h = ap (λ x. g a ++ x) (cut_short g (a + 1) n all (omega arith) (λ j more. h j (omega arith)))
-
-empty_where_long : (braid : BraidValue) (last : ℕ) (f : Combination) → is_beyond braid last f ≡ false → last < longest f → basis is_killed braid last ≡ []
+pub empty_where_long : (braid : BraidValue) (last : ℕ) (f : Combination) → is_beyond braid last f ≡ false → last < longest f → basis is_killed braid last ≡ []
 unfolding is_beyond
 empty_where_long braid last f h less =
     none_left (basis is_killed braid last)
@@ -82,24 +72,6 @@ empty_where_long braid last f h less =
     at : (b : Bool) → is_empty_degree is_killed braid last ≡ b → not (is_empty_degree is_killed braid last) ≡ false → is_empty_degree is_killed braid last ≡ true
     at true e k = e
     at false e k = absurd (let c : true ≡ false = sym (ap not e) ∙ k in cc)
-
--- ---- the whole form
-
-pub forms_are_whole : (braid : BraidValue) → IsBraid braid → (f : Combination) → IsOver braid.letters f → (last degrees : ℕ) → degrees ≡ min (longest f) last + 1 → is_beyond braid last f ≡ false → (terms : Combination) →
-    terms ≡ flat_map (λ n. normal_form is_killed braid n (part_of_degree n f)) (range_with_len 0 degrees) → terms ≡ normal_form_by_parts is_killed braid f
-unfolding normal_form_by_parts degrees_of
-forms_are_whole braid is f over last degrees count h terms terms_are =
-    let g : ℕ → Combination = λ n. normal_form is_killed braid n (part_of_degree n f) in
-    terms_are
-    ∙ elim (cases_lt last (longest f)) [
-      | inl less ↦
-          let none : basis is_killed braid last ≡ [] = empty_where_long braid last f h less in
-          cut_short g 0 degrees (suc (longest f)) (omega arith) (λ j more. form_in_empty_degree is_killed braid is j (killed_is_linear braid is j) f over (stays_empty braid is.field is_killed (killed_is_ideal_from_right braid is) last j (omega arith) none))
-      | inr within ↦ ap (λ n. flat_map g (range_with_len 0 n)) (let e : degrees ≡ suc (longest f) = omega arith in e)
-    ]
-
-pub whole_is_ordered : (braid : BraidValue) → IsBraid braid → (f : Combination) → IsOver braid.letters f → (terms : Combination) → terms ≡ normal_form_by_parts is_killed braid f → IsOrdered terms
-whole_is_ordered braid is f over terms e = subst IsOrdered (sym e) (normal_forms_by_parts is_killed braid is.field (killed_is_linear braid is) f over).normal.ordered
 
 -- ---- the answer
 

@@ -5,3 +5,5 @@ pub mod Laws
 -- what the crate's own functions cite
 pub mod Sums
 pub mod Forms
+-- what the tests cite
+pub mod Whole

@@ -1,23 +1,27 @@
-//! Combinations reduced part by part, one for each degree.
+//! Combinations reduced word by word.
 
-ghost use Rattle.std.specs.Prelude.{◌≡◌, ◌≤◌, IfOk, OnOk, flat_map, suc};
-ghost use Rattle.std.specs.List.{range_with_len};
-ghost use Rattle.nichols_tensor.specs.Combination.{AllElements};
-ghost use Rattle.nichols_tensor.specs.Parts.{longest, part_of_degree};
-ghost use Rattle.nichols_tensor.specs.Words.{IsOver};
+ghost use Rattle.std.specs.Prelude.{◌≡◌, ◌≤◌, ◌++◌, false, IfOk, OnOk, length};
+ghost use Rattle.nichols_field.specs.Field.{IsElement};
+ghost use Rattle.nichols_tensor.specs.Combination.{AllElements, HasSameValues, scaled};
+ghost use Rattle.nichols_tensor.specs.Parts.{longest};
+ghost use Rattle.nichols_tensor.specs.Words.{IsOver, IsWordOver};
 ghost use Rattle.nichols_braid.specs.Kernel.{is_killed};
-ghost use Rattle.nichols_braid.specs.Least.{normal_form};
-ghost use Rattle.nichols_reduce.specs.Forms.{IsSumOf};
+ghost use Rattle.nichols_braid.specs.WholeForm.{normal_form_by_parts};
+ghost use Rattle.nichols_reduce.specs.Forms.{form_of};
 ghost use Rattle.nichols_reduce.specs.Normal.{is_beyond};
 
-use crate::letters::{put_form, zero_sums};
-use crate::sums::{add_sums, put_terms};
+use crate::letters::{block_rule, put_form};
+use crate::sums::put_terms;
 use nichols_block::Levels;
-use nichols_words::Term;
+use nichols_field::Field;
+use nichols_words::{Comb, Term};
 use std::alloc::{AllocError, Global};
 
+/// So many terms are kept before those of one word are added up.
+const MANY_TERMS: usize = 1_000_000;
+
 /// The most letters of a word, or 0.
-pub(crate) fn longest(terms: &[Term]) -> usize
+fn longest(terms: &[Term]) -> usize
     ensures { result ≡ longest terms.now }
 {
     let mut most = 0;
@@ -34,59 +38,74 @@ pub(crate) fn is_beyond(levels: &Levels, terms: &[Term]) -> bool
     longest(terms) > levels.last() as usize && !levels.closed()
 }
 
-/// Puts the normal form of the terms whose words have m letters into the sums, a coefficient for each least word of degree m.
-fn sum_part(
+/// Puts the normal form of a term, whose word has a degree that is made, behind other terms.
+fn put_term(
     levels: &Levels,
-    m: u32,
-    terms: &[Term],
-    sums: &mut Vec<u64>,
+    term: &Term,
+    sum: &mut Vec<Term>,
     form: &mut Vec<u64>,
     spare: &mut Vec<u64>,
 ) -> Result<(), AllocError>
-    requires made { m ≤ levels.now.last }
-    requires letters { IsOver levels.now.braid.letters terms.now }
-    requires elements { AllElements levels.now.braid.field terms.now }
-    ensures { OnOk result (IsSumOf levels.now.braid m (part_of_degree m terms.now) sums.new.items) }
+    requires made { length term.now.word ≤ levels.now.last }
+    requires letters { IsWordOver levels.now.braid.letters term.now.word }
+    requires element { IsElement levels.now.braid.field term.now.coefficient }
+    requires elements { AllElements levels.now.braid.field sum.old.items }
+    ensures values { OnOk result (HasSameValues levels.now.braid.field sum.new.items (sum.old.items ++ scaled levels.now.braid.field term.now.coefficient (form_of levels.now.braid term.now.word))) }
+    ensures elements { OnOk result (AllElements levels.now.braid.field sum.new.items) }
 {
     let field = levels.braid().field();
-    let basis = levels.rule(m).basis.as_slice();
-    zero_sums(sums, basis.len())?;
-    for term in terms {
-        if term.word.len() == m as usize {
-            put_form(levels, &term.word, form, spare)?;
-            add_sums(
-                field,
-                term.coefficient,
-                basis,
-                form.as_slice(),
-                sums.as_mut_slice(),
-            );
-        }
-    }
+    let _last = levels.last();
+    let product = put_form(levels, &term.word, form, spare)?;
+    let rule = block_rule(levels, term.word.len() as u32, &product);
+    put_terms(field, term.coefficient, rule.basis(), form.as_slice(), sum)?;
     Ok(())
 }
 
-/// The normal forms of the parts of the first degrees, one degree after the other.
-pub(crate) fn forms_below(
+/// Terms with the same values, where there are too many: those of one word are added up. `most` grows with what is left, so that
+/// this isn't done often.
+fn gathered(
+    alloc: Global,
+    field: Field,
+    terms: Vec<Term>,
+    most: &mut usize,
+) -> Result<Vec<Term>, AllocError>
+    requires elements { AllElements field terms.items }
+    ensures values { IfOk result (λ r. HasSameValues field r.items terms.items) }
+    ensures elements { IfOk result (λ r. AllElements field r.items) }
+{
+    let mut terms = terms;
+    if terms.len() <= *most {
+        return Ok(terms);
+    }
+    let sum = Comb::sum_of(alloc, field, terms.as_mut_slice())?.into_terms();
+    *most = usize::max(*most, sum.len().saturating_mul(2));
+    Ok(sum)
+}
+
+/// The normal form of a combination, each of whose words has a degree that is made, or is longer in closed levels: a word that is
+/// longer than the last degree is zero there and adds nothing.
+pub(crate) fn sum_of_forms(
     alloc: Global,
     levels: &Levels,
     terms: &[Term],
-    degrees: u32,
-) -> Result<Vec<Term>, AllocError>
-    requires made { degrees ≤ suc levels.now.last }
+) -> Result<Comb, AllocError>
     requires letters { IsOver levels.now.braid.letters terms.now }
     requires elements { AllElements levels.now.braid.field terms.now }
-    ensures { IfOk result (λ r. r.items ≡ flat_map (λ m. normal_form is_killed levels.now.braid m (part_of_degree m terms.now)) (range_with_len 0 degrees)) }
+    requires within { is_beyond levels.now.braid levels.now.last terms.now ≡ false }
+    ensures { IfOk result (λ r. r ≡ normal_form_by_parts is_killed levels.now.braid terms.now) }
 {
     let field = levels.braid().field();
-    let mut sums = Vec::new(alloc);
+    let last = levels.last() as usize;
     let mut form = Vec::new(alloc);
     let mut spare = Vec::new(alloc);
-    let mut out = Vec::new(alloc);
-    for m in 0..degrees {
-        sum_part(levels, m, terms, &mut sums, &mut form, &mut spare)?;
-        let basis = levels.rule(m).basis.as_slice();
-        put_terms(field, basis, sums.as_slice(), &mut out)?;
+    let mut sum = Vec::new(alloc);
+    let mut most = MANY_TERMS;
+    for term in terms {
+        if term.word.len() <= last {
+            put_term(levels, term, &mut sum, &mut form, &mut spare)?;
+        }
+        sum = gathered(alloc, field, sum, &mut most)?;
     }
-    Ok(out)
+    let form = Comb::sum_of(alloc, field, sum.as_mut_slice())?;
+    Ok(form)
 }

@@ -1,20 +1,83 @@
-ghost use Rattle.std.specs.Prelude.{IfOk, IfSome};
+ghost use Rattle.std.specs.Prelude.{◌≡◌, ◌<◌, IfOk, IfSome, MatchOption, map, suc, ⊤};
+ghost use Rattle.std.specs.List.{Contains};
 ghost use Rattle.nichols_tensor.specs.Combination.{AllElements};
 ghost use Rattle.nichols_tensor.specs.Words.{IsOver, IsWordOver};
+ghost use Rattle.nichols_braid.specs.declared.TheConstants.{MOST_DEGREES};
+ghost use Rattle.nichols_braid.specs.Products.{products};
+ghost use Rattle.nichols_value.specs.declared.value.BlockValue.TheVariants.{Rule};
+ghost use Rattle.nichols_value.specs.Worth.{worth};
+ghost use Rattle.nichols_block.specs.Levels.{rules_of};
+ghost use Rattle.nichols_reduce.specs.Whole.{AreWhole, IsWholeRule};
 
 use super::*;
-use nichols_block::{Levels, make_degree};
-use nichols_braid::{Braid, MOST_DEGREES, Scalars};
+use nichols_block::{BlockKey, BlockValue, Levels, Shared, lower_values, make};
+use nichols_braid::{Braid, MOST_DEGREES, MOST_ROWS, Product, Products, Scalars};
 use nichols_field::Field;
 use nichols_tensor::LETTER_LIMIT;
 use nichols_words::{Comb, Word};
-use std::alloc::Global;
+use std::alloc::{AllocError, Global};
 use std::test::Fail;
 
 const THREE: [&[i64]; 3] = [&[1, 3, 2], &[3, 2, 1], &[2, 1, 3]];
 
 /// The rack of the tetrahedron.
 const FOUR: [&[i64]; 4] = [&[1, 4, 2, 3], &[3, 2, 4, 1], &[4, 1, 3, 2], &[2, 3, 1, 4]];
+
+/// The rule of the block of the next degree and a product, or `None` where there was none.
+fn next_value(
+    alloc: Global,
+    levels: &Levels,
+    product: &Product,
+) -> Result<Option<Shared>, AllocError>
+    requires room { levels.now.last < MOST_DEGREES }
+    requires there { Contains (products levels.now.braid (suc levels.now.last)) product.now }
+    requires whole { AreWhole levels.now.braid levels.now.last }
+    ensures { IfOk result (λ r. MatchOption r ⊤ (λ v. IsWholeRule levels.now.braid (suc levels.now.last) product.now (worth v))) }
+{
+    let key = BlockKey {
+        degree: levels.last() + 1,
+        product: *product,
+    };
+    let lower = lower_values(alloc, levels, &key)?;
+    let value = make(alloc, levels.braid(), &key, lower.as_slice(), MOST_ROWS);
+    let shared = Shared::of(alloc, value);
+    match shared.get() {
+        Some(BlockValue::Rule(_)) => Ok(Some(shared)),
+        _ => Ok(None),
+    }
+}
+
+/// The rules of the blocks of the next degree.
+fn next_values(alloc: Global, levels: &Levels, next: &Products) -> Result<Vec<Shared>, Fail>
+    requires room { levels.now.last < MOST_DEGREES }
+    requires products { next.now ≡ products levels.now.braid (suc levels.now.last) }
+    requires whole { AreWhole levels.now.braid levels.now.last }
+    ensures rules { IfOk result (λ vs. map worth vs.items ≡ map Rule (rules_of levels.now.braid (suc levels.now.last))) }
+    ensures whole { IfOk result (λ vs. AreWhole levels.now.braid (suc levels.now.last)) }
+{
+    let mut values = Vec::new(alloc);
+    for k in 0..next.len() {
+        let value = next_value(alloc, levels, next.at(k))?.ok_or("no rule")?;
+        values.push(value)?;
+    }
+    Ok(values)
+}
+
+/// Levels of one degree more.
+fn longer(alloc: Global, levels: Levels) -> Result<Levels, Fail>
+    requires room { levels.last < MOST_DEGREES }
+    requires whole { AreWhole levels.braid levels.last }
+    ensures { IfOk result (λ l. AreWhole l.braid l.last) }
+{
+    let mut levels = levels;
+    let next = levels
+        .products(levels.last())
+        .next(alloc, levels.braid())
+        .map_err(|_| "wide")?;
+    let values = next_values(alloc, &levels, &next)?;
+    levels.push(next, values)?;
+    Ok(levels)
+}
 
 /// The algebra of a rack over F_101 with the scalar -1, up to a degree, or to where it closes.
 fn levels_up_to(alloc: Global, rack: &[&[i64]], degree: u32) -> Result<Levels, Fail> {
@@ -28,10 +91,8 @@ fn levels_up_to(alloc: Global, rack: &[&[i64]], degree: u32) -> Result<Levels, F
     )?;
     let mut levels = Levels::start(alloc, braid)?;
     for _step in 0..degree {
-        let last = levels.last();
-        if last < MOST_DEGREES && !levels.closed() {
-            let next = make_degree(alloc, levels.braid(), levels.rule(last))?;
-            levels.push(next)?;
+        if levels.last() < MOST_DEGREES && !levels.closed() {
+            levels = longer(alloc, levels)?;
         }
     }
     Ok(levels)

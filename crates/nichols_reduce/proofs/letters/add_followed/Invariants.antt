@@ -1,10 +1,9 @@
-use Rattle.std.proofs.Common.{suc, take}
-use Rattle.nichols_braid.specs.Kernel.{is_killed}
-use Rattle.nichols_braid.specs.Least.{basis}
+use Rattle.std.proofs.Common.{take}
+use Rattle.nichols_value.specs.Rule.{below_in}
 use Rattle.nichols_reduce.specs.Sums.{HasGrownBy, combination_of}
 use Rattle.nichols_reduce.specs.Forms.{followed}
 use Rattle.nichols_reduce.proofs.letters.add_followed.Given as goal
 
 abbrev pub invariant-loop-k : goal.invariant-loop-k
 invariant-loop-k l =
-    HasGrownBy l.braid.field (basis is_killed l.braid (suc l.lower.degree)) l.fn.sums (followed l.braid (suc l.lower.degree) (take l.k (combination_of l.braid.field (basis is_killed l.braid l.lower.degree) l.form)) l.letter) l.sums
+    HasGrownBy l.braid.field l.rule.basis l.fn.sums (followed l.braid l.rule.key.degree (take l.k (combination_of l.braid.field (below_in l.rule l.b) l.form)) l.b) l.sums

@@ -1,0 +1,91 @@
+-- The blocks of levels that the tests make are whole.
+use Rattle.std.proofs.Common.{◌≡◌, ◌⊎◌, ℕ, suc, ◌-◌, ◌<◌, ◌≤◌, true, List, [], length, map, get_or, take, sym, ◌∙◌, ap, subst, arith, inl, inr}
+use Rattle.std.specs.List.{Contains}
+use Rattle.std.proofs.lemmas.Bool.{cases_lt}
+use Rattle.std.proofs.lemmas.List.{get_or_default, take_all}
+use Rattle.std.proofs.lemmas.List.Sums.{length-filter, count_by-le-length}
+use Rattle.nichols_tensor.proofs.Entries.{in_map}
+use Rattle.nichols_tensor.proofs.Over.{all_at}
+use Rattle.nichols_tensor.proofs.Tests.{all_of_entries}
+use Rattle.nichols_tensor.specs.Positions.{word_at}
+use Rattle.nichols_braid.specs.declared.TheConstants.{MOST_ROWS}
+use Rattle.nichols_braid.specs.Braid.{BraidValue}
+use Rattle.nichols_braid.specs.Kernel.{is_killed}
+use Rattle.nichols_braid.specs.Least.{candidates}
+use Rattle.nichols_braid.specs.Product.{has_product, product_before}
+use Rattle.nichols_braid.specs.Products.{products, rows}
+use Rattle.nichols_braid.proofs.Candidates.{candidates_first}
+use Rattle.nichols_value.specs.declared.key.BlockKey.{BlockKey}
+use Rattle.nichols_value.specs.declared.shared.LowerValue.{LowerValue}
+use Rattle.nichols_value.specs.declared.shared.Shared.{Shared}
+use Rattle.nichols_value.specs.declared.value.BlockValue.{BlockValue}
+use Rattle.nichols_value.specs.declared.value.BlockValue.TheVariants.{Rule, Starved}
+use Rattle.nichols_value.specs.Block.{is_whole, lower_letters}
+use Rattle.nichols_value.specs.Rule.{PlainRule, rule_of}
+use Rattle.nichols_value.specs.Value.{IsRight}
+use Rattle.nichols_value.specs.Worth.{worth}
+use Rattle.nichols_value.proofs.Blocks.{from_lower_letters}
+use Rattle.nichols_value.proofs.Wholes.{right_rule, rule_value, whole_below_first, whole_from}
+use Rattle.nichols_block.specs.Levels.{rules_of}
+use Rattle.nichols_block.specs.Lower.{AreLowerRules, AreLowerValues}
+use Rattle.nichols_reduce.specs.Whole.{AreWhole, IsWholeRule}
+
+-- degree 0
+few_first : (braid : BraidValue) (g : List ℕ) → rows is_killed braid 0 g ≤ 1
+unfolding rows
+few_first braid g =
+    let ws : List (List ℕ) = candidates is_killed braid 0 in
+    let e = length-filter (has_product braid g) ws in
+    let most = count_by-le-length (has_product braid g) ws in
+    let one : length ws ≡ 1 = ap length (candidates_first is_killed braid) in
+    omega (arith, e, most, one)
+
+pub first_is_whole : (braid : BraidValue) (last : ℕ) → last ≡ 0 → AreWhole braid last
+first_is_whole braid last e m g below i =
+    let few : rows is_killed braid 0 g ≤ 1 = few_first braid g in
+    let first : 0 ≡ m = omega (arith, e, below) in
+    subst (λ d. is_whole braid MOST_ROWS d g ≡ true) first (whole_from braid MOST_ROWS 0 g (omega (arith, few)) (whole_below_first braid MOST_ROWS g))
+
+-- the rules of lower blocks are right
+pub rules_are_right : (braid : BraidValue) (last : ℕ) (key : BlockKey) (lower : List LowerValue) → AreWhole braid last → key.degree ≡ suc last → AreLowerRules braid key lower → AreLowerValues braid MOST_ROWS key lower
+rules_are_right braid last key lower whole degree h = record {
+  letters = h.letters;
+  right = all_of_entries (λ (l : LowerValue). IsRight braid MOST_ROWS (key.degree - 1) (product_before braid l.letter key.product) (worth l.value)) lower (λ l i.
+      let below : last ≡ key.degree - 1 = omega (arith, degree) in
+      let listed : Contains (lower_letters braid (suc last) key.product) l.letter =
+      subst (λ d. Contains (lower_letters braid d key.product) l.letter) degree (subst (λ ls. Contains ls l.letter) h.letters (in_map (λ (v : LowerValue). v.letter) l lower i)) in
+      let own : is_whole braid MOST_ROWS last (product_before braid l.letter key.product) ≡ true = whole last (product_before braid l.letter key.product) (omega arith) (from_lower_letters braid last key.product l.letter listed).2 in
+      let rule = all_at (λ (v : LowerValue). worth v.value ≡ Rule (rule_of braid (key.degree - 1) (product_before braid v.letter key.product))) lower l h.rules i in
+      inl (rule ∙ sym (rule_value braid MOST_ROWS (key.degree - 1) (product_before braid l.letter key.product) (subst (λ d. is_whole braid MOST_ROWS d (product_before braid l.letter key.product) ≡ true) below own))));
+}
+
+-- a right value that is a rule
+pub whole_rule : (braid : BraidValue) (m : ℕ) (g : List ℕ) (value shared : BlockValue) (r : PlainRule) → IsRight braid MOST_ROWS m g value → (shared ≡ value) ⊎ (shared ≡ Starved) → shared ≡ Rule r → IsWholeRule braid m g shared
+whole_rule braid m g value shared r right (inr starved) is = absurd (let c : Starved ≡ Rule r = sym starved ∙ is in cc)
+whole_rule braid m g value shared r right (inl same) is =
+    let (whole, own) = right_rule braid MOST_ROWS m g r (subst (IsRight braid MOST_ROWS m g) (sym same ∙ is) right) in
+    record { rule = is ∙ ap Rule own; whole = whole }
+
+-- the rules of the first products of a degree
+pub record AreWholeRules (braid : BraidValue) (m k : ℕ) (gs : List (List ℕ)) (vs : List Shared) : Type 0 where
+  pub rules : map worth vs ≡ map Rule (map (rule_of braid m) (take k gs))
+  pub whole : (i : ℕ) → i < k → i < length gs → is_whole braid MOST_ROWS m (word_at gs i) ≡ true
+
+pub all_rules : (braid : BraidValue) (m k : ℕ) (gs : List (List ℕ)) (vs : List Shared) → gs ≡ products braid m → length gs ≤ k → AreWholeRules braid m k gs vs → map worth vs ≡ map Rule (rules_of braid m)
+unfolding rules_of
+all_rules braid m k gs vs listed past h = h.rules ∙ ap (λ ps. map Rule (map (rule_of braid m) ps)) (take_all k gs past ∙ listed)
+
+-- with the next degree, too, all blocks are whole
+pub whole_more : (braid : BraidValue) (last k : ℕ) (gs : List (List ℕ)) (vs : List Shared) → gs ≡ products braid (suc last) → length gs ≤ k → AreWhole braid last → AreWholeRules braid (suc last) k gs vs → AreWhole braid (suc last)
+whole_more braid last k gs vs listed past whole h m g below i =
+    elim (cases_lt m (suc last)) [
+      | inl less ↦ whole m g (omega arith) i
+      | inr same ↦
+          let here : suc last ≡ m = omega (arith, same, below) in
+          let own : Contains gs g = subst (λ ps. Contains ps g) (sym listed) (subst (λ d. Contains (products braid d) g) (sym here) i) in
+          let (j, inside, at) = own in
+          subst (λ d. is_whole braid MOST_ROWS d g ≡ true) here (subst (λ p. is_whole braid MOST_ROWS (suc last) p ≡ true) (place_is gs g j inside at) (h.whole j (omega (arith, inside, past)) inside))
+    ]
+  where
+    place_is : (ps : List (List ℕ)) (p : List ℕ) (j : ℕ) → j < length ps → get_or ps j p ≡ p → word_at ps j ≡ p
+    place_is ps p j inside at = get_or_default ps j [] p inside ∙ at
