@@ -1,0 +1,5 @@
+use Rattle.nichols_shelf.proofs.ShelfLaws.{a_release_is_its_event}
+use Rattle.nichols_shelf.proofs.laws.a_release_is_its_event.Goals as goal
+
+pub returns : goal.returns
+returns c = a_release_is_its_event

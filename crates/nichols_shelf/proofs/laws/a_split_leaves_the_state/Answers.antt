@@ -1,0 +1,5 @@
+use Rattle.nichols_shelf.proofs.ShelfLaws.{a_split_leaves_the_state}
+use Rattle.nichols_shelf.proofs.laws.a_split_leaves_the_state.Goals as goal
+
+pub returns : goal.returns
+returns c = a_split_leaves_the_state

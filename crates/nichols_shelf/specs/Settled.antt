@@ -1,0 +1,30 @@
+-- What a shelf shows once all passes but one are joined into that one, which holds and resumes nothing.
+use Rattle.std.specs.Prelude.{◌≡◌, ℕ, ◌<◌, true, false, List, slice_index, Some, is_some}
+use Rattle.std.specs.Int.{bit_at}
+use Rattle.nichols_value.specs.declared.value.BlockValue.{BlockValue}
+use Rattle.nichols_shelf.specs.Plan.{PlanValue, IsRightFor}
+use Rattle.nichols_shelf.specs.Lists.{is_in, times_in, noted}
+use Rattle.nichols_shelf.specs.Places.{blocks, edges, edge, wait_place}
+use Rattle.nichols_shelf.specs.declared.view.View.{View}
+
+-- the pass holds nothing, resumes nothing, owes nothing
+abbrev pub HoldsNothing : View → Type 0
+HoldsNothing v = (b : ℕ) → is_in b v.held ≡ false
+
+abbrev pub ResumesNothing : View → Type 0
+ResumesNothing v = (b : ℕ) → is_in b v.resumed ≡ false
+
+abbrev pub OwesNothing : View → Type 0
+OwesNothing v = (b : ℕ) → b < blocks v.plan → is_in b v.owed ≡ false
+
+-- where the pass owed nothing it made every block, each once; it notes a value at each edge out of a block that it made, which is
+-- right for the block and the same at all its edges
+pub record IsSettled (g : PlanValue) (v : View) : Type 0 where
+  pub all : OwesNothing v → (b : ℕ) → b < blocks g → times_in b v.made ≡ 1
+  pub values : (k : ℕ) → k < edges g → times_in (edge g k).lower v.made ≡ 1 → is_some (noted k v.laid) ≡ true
+  pub right : (k : ℕ) (x : BlockValue) → noted k v.laid ≡ Some x → IsRightFor g (edge g k).lower x
+  pub equal : (j k : ℕ) (x y : BlockValue) → (edge g j).lower ≡ (edge g k).lower → noted j v.laid ≡ Some x → noted k v.laid ≡ Some y → x ≡ y
+
+-- the last bits of the wait words say which blocks the pass made
+abbrev pub SayWhatIsMade : PlanValue → List ℕ → View → Type 0
+SayWhatIsMade g words v = (b : ℕ) → b < blocks g → bit_at (slice_index words (wait_place g b)) 63 ≡ times_in b v.made

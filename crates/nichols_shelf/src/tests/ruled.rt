@@ -1,0 +1,125 @@
+//! Two blocks whose values are rules.
+
+ghost use Rattle.std.specs.Prelude.{◌≡◌, ◌<◌, ◌≤◌, length, IfOk};
+ghost use Rattle.nichols_tensor.specs.Positions.{word_at};
+ghost use Rattle.nichols_braid.specs.declared.TheConstants.{MOST_ROWS};
+ghost use Rattle.nichols_braid.specs.Products.{products};
+ghost use Rattle.nichols_value.specs.Value.{IsRight};
+ghost use Rattle.nichols_value.specs.Worth.{worth};
+ghost use Rattle.nichols_shelf.specs.Alone.{one_edge};
+ghost use Rattle.nichols_shelf.specs.Passes.{IsOf, plan_of, view_of};
+ghost use Rattle.nichols_shelf.specs.Plan.{IsRightFor, key_at};
+ghost use Rattle.nichols_shelf.specs.Views.{first_view};
+
+use crate::{Asked, Pass, Shelf};
+use nichols_block::{Levels, lower_values, make};
+use nichols_braid::{Braid, Products};
+use nichols_core::Layout;
+use nichols_value::{BlockKey, BlockValue, Shared};
+use nichols_words::Word;
+use std::alloc::{AllocError, Global};
+use std::process::Abort;
+use std::test::Fail;
+
+/// The value of the block of the first product of degree 1.
+pub(crate) fn value_of_first(alloc: Global, levels: &Levels, first: &Products, limit: u32) -> Shared
+    requires lowest { levels.now.last ≡ 0 }
+    requires next { first.now ≡ products levels.now.braid 1 }
+    requires some { 0 < length first.now }
+    requires some_rows { 1 ≤ limit }
+    requires few_rows { limit ≤ MOST_ROWS }
+    ensures { IsRight levels.now.braid limit 1 (word_at first.now 0) (worth result) }
+{
+    let key = BlockKey {
+        degree: 1,
+        product: *first.at(0),
+    };
+    match lower_values(alloc, levels, &key) {
+        Ok(lower) => Shared::of(
+            alloc,
+            make(alloc, levels.braid(), &key, lower.as_slice(), limit),
+        ),
+        Err(_) => Shared::Starved,
+    }
+}
+
+/// A shelf over two blocks, of the first products of the degrees 1 and 2.
+pub(crate) fn shelf_of_two(
+    alloc: Global,
+    layout: Layout,
+    braid: &Braid,
+    first: &Products,
+    second: &Products,
+    limit: u32,
+) -> Result<(Shelf, Pass), AllocError>
+    requires two { length layout.degrees ≡ 2 }
+    requires first { 0 < length first.now }
+    requires second { 0 < length second.now }
+    ensures pass { IfOk result (λ r. IsOf r.0 r.1 × (view_of r.1 ≡ first_view (plan_of r.0))) }
+    ensures layout { IfOk result (λ r. (plan_of r.0).layout ≡ layout) }
+    ensures key { IfOk result (λ r. ((plan_of r.0).braid ≡ braid.now) × ((plan_of r.0).rows_limit ≡ limit) × (key_at (plan_of r.0) 0 ≡ record { degree = 1; product = word_at first.now 0 })) }
+{
+    let mut keys = Vec::new(alloc);
+    keys.push(BlockKey {
+        degree: 1,
+        product: *first.at(0),
+    })?;
+    keys.push(BlockKey {
+        degree: 2,
+        product: *second.at(0),
+    })?;
+    Shelf::start(alloc, layout, keys, limit, braid)
+}
+
+/// The products of degree 1.
+pub(crate) fn products_of_letters(alloc: Global, braid: &Braid) -> Result<Products, Fail>
+    ensures { IfOk result (λ ps. ps ≡ products braid.now 1) }
+{
+    let none = Products::first(alloc, braid)?;
+    let letters = none.next(alloc, braid).map_err(|_| "too many products")?;
+    Ok(letters)
+}
+
+/// The products of degree 2, from those of degree 1.
+pub(crate) fn products_of_pairs(
+    alloc: Global,
+    braid: &Braid,
+    letters: &Products,
+) -> Result<Products, Fail>
+    requires { letters.now ≡ products braid.now 1 }
+{
+    let pairs = letters.next(alloc, braid).map_err(|_| "too many products")?;
+    Ok(pairs)
+}
+
+/// Whether a value is a rule with the letter 1 as its one least word.
+pub(crate) fn is_rule_of_letter(value: &Shared) -> bool {
+    let Some(BlockValue::Rule(rule)) = value.get() else {
+        return false;
+    };
+    let mut letter = Word::empty();
+    letter.push(1) && rule.basis().len() == 1 && rule.basis()[0] == letter
+}
+
+/// One pass makes both blocks, with this value of block 0: the value that it picks.
+pub(crate) fn picked_after<R: Abort>(
+    rt: &R,
+    shelf: &Shelf,
+    pass: &mut Pass,
+    value: Shared,
+) -> Shared
+    requires of { IsOf shelf.now pass.old }
+    requires first { view_of pass.old ≡ first_view (plan_of shelf.now) }
+    requires edges { (plan_of shelf.now).layout.edges ≡ one_edge }
+    requires blocks { length (plan_of shelf.now).layout.degrees ≡ 2 }
+    requires right { IsRightFor (plan_of shelf.now) 0 (worth value) }
+{
+    assert!(rt; shelf.take(pass, 0));
+    shelf.lay(pass, 0, 1, value);
+    let _asked = shelf.publish(pass, 0);
+    assert!(rt; shelf.take(pass, 1));
+    let Asked::Published = shelf.ask(pass, 1, 1) else {
+        panic!(rt; "not published");
+    };
+    shelf.pick(pass, 1, 1)
+}
