@@ -6,9 +6,8 @@ use Rattle.nichols_braid.specs.Braid.{BraidValue}
 use Rattle.nichols_braid.specs.Kernel.{is_in_kernel}
 use Rattle.nichols_braid.specs.End.{is_empty_degree}
 use Rattle.nichols_braid.specs.Products.{products}
-use Rattle.nichols_graded.specs.Ends.{rows_stop, rows_of_products, stops_at}
+use Rattle.nichols_graded.specs.Ends.{end_by, rows_stop, rows_of_products, stops_at}
 use Rattle.nichols_graded.specs.Graded.{GradedValue, IsGraded}
-use Rattle.nichols_graded.specs.declared.ends.End.{End}
 use Rattle.nichols_graded.specs.declared.ends.End.TheVariants as ends
 use Rattle.nichols_graded.specs.declared.ends.Stop.{Stop}
 use Rattle.nichols_graded.specs.declared.ends.Stop.TheVariants.{DegreeLimit, Wide, Rows}
@@ -20,12 +19,12 @@ use Rattle.nichols_top.specs.Ended.{HasEnd}
 -- ---- what the end tells of the last finished degree
 
 -- the end by the last finished degree
-end_is : (g : GradedValue) (end : End) → IsGraded g → HasEnd g end → cond (is_empty_degree is_in_kernel g.braid g.last) (Some ends.Closed) (option_map ends.Stopped (stops_at g.braid g.limit g.rows (suc g.last))) ≡ Some end
-end_is g end is reached = sym (end_is_reached g.braid g.limit g.rows g.last is.most is.finished) ∙ reached
+end_is : (g : GradedValue) (stop : Option Stop) → IsGraded g → HasEnd g stop → cond (is_empty_degree is_in_kernel g.braid g.last) (Some ends.Closed) (option_map ends.Stopped (stops_at g.braid g.limit g.rows (suc g.last))) ≡ Some (end_by stop)
+end_is g stop is reached = sym (end_is_reached g.braid g.limit g.rows g.last is.most is.finished) ∙ reached
 
 -- a closed algebra ends with an empty degree
-pub closed_is_empty : (g : GradedValue) → IsGraded g → HasEnd g ends.Closed → is_empty_degree is_in_kernel g.braid g.last ≡ true
-closed_is_empty g is reached = at (is_empty_degree is_in_kernel g.braid g.last) (stops_at g.braid g.limit g.rows (suc g.last)) (end_is g ends.Closed is reached)
+pub closed_is_empty : (g : GradedValue) → IsGraded g → HasEnd g None → is_empty_degree is_in_kernel g.braid g.last ≡ true
+closed_is_empty g is reached = at (is_empty_degree is_in_kernel g.braid g.last) (stops_at g.braid g.limit g.rows (suc g.last)) (end_is g None is reached)
   where
     at : (b : Bool) (stop : Option Stop) → cond b (Some ends.Closed) (option_map ends.Stopped stop) ≡ Some ends.Closed → b ≡ true
     at true stop e = refl
@@ -37,8 +36,8 @@ pub record IsStoppedBy (g : GradedValue) (stop : Stop) : Type 0 where
   pub filled : is_empty_degree is_in_kernel g.braid g.last ≡ false
   pub stops : stops_at g.braid g.limit g.rows (suc g.last) ≡ Some stop
 
-pub stopped_is_filled : (g : GradedValue) (stop : Stop) → IsGraded g → HasEnd g (ends.Stopped stop) → IsStoppedBy g stop
-stopped_is_filled g stop is reached = at (is_empty_degree is_in_kernel g.braid g.last) (stops_at g.braid g.limit g.rows (suc g.last)) refl refl (end_is g (ends.Stopped stop) is reached)
+pub stopped_is_filled : (g : GradedValue) (stop : Stop) → IsGraded g → HasEnd g (Some stop) → IsStoppedBy g stop
+stopped_is_filled g stop is reached = at (is_empty_degree is_in_kernel g.braid g.last) (stops_at g.braid g.limit g.rows (suc g.last)) refl refl (end_is g (Some stop) is reached)
   where
     at : (b : Bool) (found : Option Stop) → is_empty_degree is_in_kernel g.braid g.last ≡ b → stops_at g.braid g.limit g.rows (suc g.last) ≡ found → cond b (Some ends.Closed) (option_map ends.Stopped found) ≡ Some (ends.Stopped stop) → IsStoppedBy g stop
     at true found filled stops e = cc
@@ -72,11 +71,11 @@ names_its_degree braid limit rows m stop e = at (nat_lt limit m) (nat_lt MOST_PR
     at false false e = stopped_by_rows rows m 1 (rows_of_products braid m) stop e
 
 -- the end line of an end that was reached
-pub later_line : (g : GradedValue) (end : End) (last : ℕ) (dimensions : List ℕ) → IsGraded g → HasEnd g end → StopsLater (end_line_of end last dimensions)
-later_line g ends.Closed last dimensions is reached = tt
-later_line g (ends.Stopped stop) last dimensions is reached = at stop (names_its_degree g.braid g.limit g.rows (suc g.last) stop (stopped_is_filled g stop is reached).stops)
+pub later_line : (g : GradedValue) (stop : Option Stop) (last : ℕ) (dimensions : List ℕ) → IsGraded g → HasEnd g stop → StopsLater (end_line_of stop last dimensions)
+later_line g None last dimensions is reached = tt
+later_line g (Some stop) last dimensions is reached = at stop (names_its_degree g.braid g.limit g.rows (suc g.last) stop (stopped_is_filled g stop is reached).stops)
   where
-    at : (s : Stop) → IsStopOf (suc g.last) s → StopsLater (end_line_of (ends.Stopped s) last dimensions)
+    at : (s : Stop) → IsStopOf (suc g.last) s → StopsLater (end_line_of (Some s) last dimensions)
     at DegreeLimit h = tt
     at (Wide degree) h = omega (arith, h)
     at (Rows degree product count) h = omega (arith, h)

@@ -1,12 +1,12 @@
 -- Reports of expressions, from their pieces as they are put.
 use Rattle.std.proofs.Common.{◌≡◌, ℕ, ◌-◌, [], ◌∷◌, length, refl, ◌∙◌, ap, subst, arith, Some, None, Ok, Err}
-use Rattle.std.specs.Prelude.{Result}
+use Rattle.std.specs.Prelude.{Option, Result}
 use Rattle.nichols_graded.specs.Graded.{GradedValue}
-use Rattle.nichols_graded.specs.declared.ends.End.{End}
+use Rattle.nichols_graded.specs.declared.ends.Stop.{Stop}
 use Rattle.nichols_input.specs.Document.{DocumentValue}
 use Rattle.nichols_text.specs.Pieces.{symmetrize_piece}
 use Rattle.nichols_text.specs.Refusals.{long_expression_text}
-use Rattle.nichols_top.specs.Algebra.{Scope, degrees_in, end_in, pieces_due, status_of}
+use Rattle.nichols_top.specs.Algebra.{Scope, degrees_in, stop_in, pieces_due, status_of}
 use Rattle.nichols_top.specs.Ended.{IsEnded}
 use Rattle.nichols_top.specs.Reduce.{form_due, forms_due, reduce_due}
 use Rattle.nichols_top.specs.Report.{piece, numbered, line_report}
@@ -20,11 +20,11 @@ use Rattle.nichols_top.proofs.Taking.{takes_more, breaks_first, breaks_more}
 -- ---- normal forms
 
 -- the forms that are due, by the algebra whose end was reached
-forms_are : (document : DocumentValue) (scope : Scope) (g : GradedValue) (end : End) → IsEnded document.braid scope g end → numbered (form_due g.braid end g.last) 1 document.expressions ≡ forms_due document scope
-forms_are document scope g end is =
+forms_are : (document : DocumentValue) (scope : Scope) (g : GradedValue) (stop : Option Stop) → IsEnded document.braid scope g stop → numbered (form_due g.braid stop g.last) 1 document.expressions ≡ forms_due document scope
+forms_are document scope g stop is =
     let last : g.last ≡ length (degrees_in document.braid scope) - 1 = let e = is.counted in omega (arith, e) in
-    ap (λ b. numbered (form_due b end g.last) 1 document.expressions) is.braid_is ∙ ap (λ e. numbered (form_due document.braid e g.last) 1 document.expressions) is.end_is
-    ∙ ap (λ n. numbered (form_due document.braid (end_in document.braid scope) n) 1 document.expressions) last
+    ap (λ b. numbered (form_due b stop g.last) 1 document.expressions) is.braid_is ∙ ap (λ e. numbered (form_due document.braid e g.last) 1 document.expressions) is.stop_is
+    ∙ ap (λ n. numbered (form_due document.braid (stop_in document.braid scope) n) 1 document.expressions) last
 
 -- where the algebra breaks off
 pub reduce_first : (document : DocumentValue) (scope : Scope) {start now : Written} {cause : Break} → BreaksIn (pieces_due document.braid scope) start now cause → Writes (reduce_due document scope) start now (Err cause)
@@ -32,15 +32,15 @@ unfolding reduce_due
 reduce_first document scope t = breaks_first (forms_due document scope) t
 
 -- where the forms break off
-pub reduce_breaks : (document : DocumentValue) (scope : Scope) (g : GradedValue) (end : End) {start mid now : Written} {cause : Break} → IsEnded document.braid scope g end → Takes (pieces_due document.braid scope) start mid →
-    BreaksIn (numbered (form_due g.braid end g.last) 1 document.expressions) mid now cause → Writes (reduce_due document scope) start now (Err cause)
+pub reduce_breaks : (document : DocumentValue) (scope : Scope) (g : GradedValue) (stop : Option Stop) {start mid now : Written} {cause : Break} → IsEnded document.braid scope g stop → Takes (pieces_due document.braid scope) start mid →
+    BreaksIn (numbered (form_due g.braid stop g.last) 1 document.expressions) mid now cause → Writes (reduce_due document scope) start now (Err cause)
 unfolding reduce_due
-reduce_breaks document scope g end {start} {mid} {now} {cause} is before t = breaks_more before (subst (λ ps. BreaksIn ps mid now cause) (forms_are document scope g end is) t)
+reduce_breaks document scope g stop {start} {mid} {now} {cause} is before t = breaks_more before (subst (λ ps. BreaksIn ps mid now cause) (forms_are document scope g stop is) t)
 
-pub reduce_whole : (document : DocumentValue) (scope : Scope) (g : GradedValue) (end : End) {start mid now : Written} (status : Status) → IsEnded document.braid scope g end → status ≡ status_of end → Takes (pieces_due document.braid scope) start mid →
-    Takes (numbered (form_due g.braid end g.last) 1 document.expressions) mid now → Writes (reduce_due document scope) start now (Ok status)
+pub reduce_whole : (document : DocumentValue) (scope : Scope) (g : GradedValue) (stop : Option Stop) {start mid now : Written} (status : Status) → IsEnded document.braid scope g stop → status ≡ status_of stop → Takes (pieces_due document.braid scope) start mid →
+    Takes (numbered (form_due g.braid stop g.last) 1 document.expressions) mid now → Writes (reduce_due document scope) start now (Ok status)
 unfolding reduce_due
-reduce_whole document scope g end {start} {mid} {now} status is s before t = (s ∙ ap status_of is.end_is, takes_more before (subst (λ ps. Takes ps mid now) (forms_are document scope g end is) t))
+reduce_whole document scope g stop {start} {mid} {now} status is s before t = (s ∙ ap status_of is.stop_is, takes_more before (subst (λ ps. Takes ps mid now) (forms_are document scope g stop is) t))
 
 -- ---- images
 

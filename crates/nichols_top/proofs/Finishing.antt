@@ -1,5 +1,5 @@
 -- The finished degrees, and the pieces of a report from one of them on.
-use Rattle.std.proofs.Common.{◌≡◌, ℕ, zero, suc, ◌+◌, ◌-◌, ◌<◌, ◌≤◌, Bool, true, false, cond, List, [], ◌∷◌, ◌++◌, map, length, refl, sym, ◌∙◌, ap, subst, arith, append_assoc, length-append, Some, None, nat_eq}
+use Rattle.std.proofs.Common.{◌≡◌, ℕ, zero, suc, ◌+◌, ◌-◌, ◌<◌, ◌≤◌, Bool, true, false, cond, List, [], ◌∷◌, ◌++◌, map, length, refl, sym, ◌∙◌, ap, subst, arith, append_assoc, length-append, Some, None, nat_eq, inl, inr}
 use Rattle.std.specs.Prelude.{Option}
 use Rattle.std.specs.List.{range_with_len}
 use Rattle.std.proofs.lemmas.Bool.Decides.{Decides-eqb}
@@ -7,14 +7,16 @@ use Rattle.std.proofs.lemmas.List.FromFn.{length-range_with_len, map-range_with_
 use Rattle.nichols_braid.specs.Braid.{BraidValue}
 use Rattle.nichols_braid.specs.Kernel.{is_in_kernel}
 use Rattle.nichols_braid.proofs.EndLaws as braid_laws
-use Rattle.nichols_graded.specs.Ends.{stops_at, finished_degrees, end_reached}
-use Rattle.nichols_graded.specs.Graded.{GradedValue, IsGraded}
+use Rattle.nichols_graded.specs.Ends.{algebra_end, end_by, stops_at, finished_degrees, end_reached}
+use Rattle.nichols_graded.specs.Graded.{GradedValue, IsGraded, TellsEnd}
+use Rattle.nichols_graded.specs.declared.ends.Advance.{Advance}
 use Rattle.nichols_graded.specs.declared.ends.End.{End}
+use Rattle.nichols_graded.specs.declared.ends.End.TheVariants as ends
 use Rattle.nichols_graded.specs.declared.ends.Stop.{Stop}
 use Rattle.nichols_text.specs.declared.end.EndLine.{EndLine}
 use Rattle.nichols_text.specs.Pieces.{end_piece}
 use Rattle.nichols_top.specs.Report.{Piece, piece}
-use Rattle.nichols_top.specs.Algebra.{Scope, degrees_in, end_in, header_due, degree_due, dimensions_of, end_line_of, factors_at, end_due, pieces_due}
+use Rattle.nichols_top.specs.Algebra.{Scope, degrees_in, stop_in, header_due, degree_due, dimensions_of, end_line_of, factors_at, end_due, pieces_due}
 use Rattle.nichols_top.specs.Ended.{HasEnd, IsEnded}
 use Rattle.nichols_top.specs.Written.{Written, Takes, BreaksIn}
 use Rattle.nichols_top.specs.declared.writer.Break.{Break}
@@ -64,45 +66,61 @@ below_count braid scope g is below = subst (λ n. g.last < n) (ap length (same_l
 
 -- the finished degrees from m on, and the end
 abbrev pub rest_from : BraidValue → Scope → ℕ → List Piece
-rest_from braid scope m = map (degree_due braid scope.brief) (range_with_len m (count braid scope - m)) ++ end_due braid (end_in braid scope) (degrees_in braid scope) ∷ []
+rest_from braid scope m = map (degree_due braid scope.brief) (range_with_len m (count braid scope - m)) ++ end_due braid (stop_in braid scope) (degrees_in braid scope) ∷ []
 
 pub pieces_are : (braid : BraidValue) (scope : Scope) → pieces_due braid scope ≡ (header_due braid scope ∷ []) ++ rest_from braid scope 0
 unfolding pieces_due
 pieces_are braid scope =
     let all : count braid scope ≡ count braid scope - 0 = omega arith in
     let degrees : degrees_in braid scope ≡ range_with_len 0 (count braid scope - 0) = degrees_are braid scope ∙ ap (range_with_len 0) all in
-    ap (λ ms. header_due braid scope ∷ (map (degree_due braid scope.brief) ms ++ end_due braid (end_in braid scope) (degrees_in braid scope) ∷ [])) degrees
+    ap (λ ms. header_due braid scope ∷ (map (degree_due braid scope.brief) ms ++ end_due braid (stop_in braid scope) (degrees_in braid scope) ∷ [])) degrees
 
 pub rest_parts : (braid : BraidValue) (scope : Scope) (from last : ℕ) → from ≤ suc last → last < count braid scope →
     rest_from braid scope from ≡ map (degree_due braid scope.brief) (range_with_len from (suc last - from)) ++ rest_from braid scope (suc last)
 rest_parts braid scope from last order below =
     let split : count braid scope - from ≡ (suc last - from) + (count braid scope - suc last) = omega arith in
     let next : from + (suc last - from) ≡ suc last = omega arith in
-    let end : List Piece = end_due braid (end_in braid scope) (degrees_in braid scope) ∷ [] in
+    let end : List Piece = end_due braid (stop_in braid scope) (degrees_in braid scope) ∷ [] in
     let due : ℕ → Piece = degree_due braid scope.brief in
     ap (λ ms. map due ms ++ end) (range_parts from (suc last - from) (count braid scope - suc last) (count braid scope - from) split ∙ ap (λ b. range_with_len from (suc last - from) ++ range_with_len b (count braid scope - suc last)) next)
     ∙ ap (λ ps. ps ++ end) (map_append due (range_with_len from (suc last - from)) (range_with_len (suc last) (count braid scope - suc last)))
     ∙ append_assoc (map due (range_with_len from (suc last - from))) (map due (range_with_len (suc last) (count braid scope - suc last))) end
 
 pub some_rest : (braid : BraidValue) (scope : Scope) (m : ℕ) → 0 < length (rest_from braid scope m)
-some_rest braid scope m = omega (arith, length-append (map (degree_due braid scope.brief) (range_with_len m (count braid scope - m))) (end_due braid (end_in braid scope) (degrees_in braid scope) ∷ []))
+some_rest braid scope m = omega (arith, length-append (map (degree_due braid scope.brief) (range_with_len m (count braid scope - m))) (end_due braid (stop_in braid scope) (degrees_in braid scope) ∷ []))
 
 -- behind the last finished degree stands the end alone
-rest_is_end : (braid : BraidValue) (scope : Scope) (last : ℕ) → count braid scope ≡ suc last → rest_from braid scope (suc last) ≡ end_due braid (end_in braid scope) (range_with_len 0 (suc last)) ∷ []
+rest_is_end : (braid : BraidValue) (scope : Scope) (last : ℕ) → count braid scope ≡ suc last → rest_from braid scope (suc last) ≡ end_due braid (stop_in braid scope) (range_with_len 0 (suc last)) ∷ []
 rest_is_end braid scope last e =
     let none : count braid scope - suc last ≡ 0 = omega arith in
-    ap (λ n. map (degree_due braid scope.brief) (range_with_len (suc last) n) ++ end_due braid (end_in braid scope) (degrees_in braid scope) ∷ []) none
-    ∙ ap (λ ms. end_due braid (end_in braid scope) ms ∷ []) (degrees_are braid scope ∙ ap (range_with_len 0) e)
+    ap (λ n. map (degree_due braid scope.brief) (range_with_len (suc last) n) ++ end_due braid (stop_in braid scope) (degrees_in braid scope) ∷ []) none
+    ∙ ap (λ ms. end_due braid (stop_in braid scope) ms ∷ []) (degrees_are braid scope ∙ ap (range_with_len 0) e)
 
 -- ---- the end
 
-pub ended_at : (braid : BraidValue) (scope : Scope) (g : GradedValue) (end : End) → IsAlgebra braid scope g → HasEnd g end → IsEnded braid scope g end
-unfolding end_reached
-ended_at braid scope g end is reached = at (nat_eq (count braid scope) (suc g.last)) refl (sym (same_limits (λ b n r. end_reached b n r g.last) braid scope g is) ∙ reached)
+-- an end tells what stops the algebra
+stop_alike : (found stop : Option Stop) → end_by found ≡ end_by stop → found ≡ stop
+stop_alike None None e = refl
+stop_alike None (Some s) e = absurd (let c : ends.Closed ≡ ends.Stopped s = e in cc)
+stop_alike (Some t) None e = absurd (let c : ends.Stopped t ≡ ends.Closed = e in cc)
+stop_alike (Some t) (Some s) e = let c : ends.Stopped t ≡ ends.Stopped s = e in ap Some (let same : t ≡ s = cc in same)
+
+pub ended_at : (braid : BraidValue) (scope : Scope) (g : GradedValue) (stop : Option Stop) → IsAlgebra braid scope g → HasEnd g stop → IsEnded braid scope g stop
+unfolding end_reached algebra_end
+ended_at braid scope g stop is reached = at (nat_eq (count braid scope) (suc g.last)) refl (sym (same_limits (λ b n r. end_reached b n r g.last) braid scope g is) ∙ reached)
   where
-    at : (b : Bool) → nat_eq (count braid scope) (suc g.last) ≡ b → cond b (Some (end_in braid scope)) None ≡ Some end → IsEnded braid scope g end
-    at true t e = record { braid_is = is.braid_is; counted = (Decides-eqb (count braid scope) (suc g.last)).0 t; end_is = let s : Some (end_in braid scope) ≡ Some end = e in cc; reached = reached }
+    at : (b : Bool) → nat_eq (count braid scope) (suc g.last) ≡ b → cond b (Some (end_by (stop_in braid scope))) None ≡ Some (end_by stop) → IsEnded braid scope g stop
+    at true t e = record { braid_is = is.braid_is; counted = (Decides-eqb (count braid scope) (suc g.last)).0 t; stop_is = sym (stop_alike (stop_in braid scope) stop (let s : Some (end_by (stop_in braid scope)) ≡ Some (end_by stop) = e in cc)); reached = reached }
     at false t e = cc
+
+-- an end that is told and no want of memory is the one that was reached
+pub end_told : (g : GradedValue) (advance : Advance) (end : End) (stop : Option Stop) → TellsEnd g advance.finished advance.end → advance.end ≡ Some end → end ≡ end_by stop → HasEnd g stop
+end_told g advance end stop (inl starved) is e = absurd (never stop (let c : Some ends.Starved ≡ Some (end_by stop) = sym starved.0 ∙ is ∙ ap Some e in cc))
+  where
+    never : (s : Option Stop) → ends.Starved ≡ end_by s → ⊥
+    never None h = let c : ends.Starved ≡ ends.Closed = h in cc
+    never (Some t) h = let c : ends.Starved ≡ ends.Stopped t = h in cc
+end_told g advance end stop (inr reached) is e = sym reached ∙ is ∙ ap Some e
 
 -- ---- degrees that are put one after the other
 
@@ -157,30 +175,30 @@ pub next_breaks : (braid : BraidValue) (scope : Scope) (m : ℕ) {start now : Wr
 next_breaks braid scope m h = taken_no_memory h (some_rest braid scope m)
 
 -- the end
-end_left : (braid : BraidValue) (scope : Scope) (g : GradedValue) (end : End) {start mid : Written} → IsEnded braid scope g end → HasTaken (pieces_due braid scope) (rest_from braid scope (suc g.last)) start mid →
-    HasTaken (pieces_due braid scope) ((end_due g.braid end (range_with_len 0 (suc g.last)) ∷ []) ++ []) start mid
-end_left braid scope g end {start} {mid} is h =
+end_left : (braid : BraidValue) (scope : Scope) (g : GradedValue) (stop : Option Stop) {start mid : Written} → IsEnded braid scope g stop → HasTaken (pieces_due braid scope) (rest_from braid scope (suc g.last)) start mid →
+    HasTaken (pieces_due braid scope) ((end_due g.braid stop (range_with_len 0 (suc g.last)) ∷ []) ++ []) start mid
+end_left braid scope g stop {start} {mid} is h =
     let degrees : List ℕ = range_with_len 0 (suc g.last) in
-    let piece_is : end_due g.braid end degrees ≡ end_due braid (end_in braid scope) degrees = ap (λ b. end_due b end degrees) is.braid_is ∙ ap (λ e. end_due braid e degrees) is.end_is in
+    let piece_is : end_due g.braid stop degrees ≡ end_due braid (stop_in braid scope) degrees = ap (λ b. end_due b stop degrees) is.braid_is ∙ ap (λ e. end_due braid e degrees) is.stop_is in
     subst (λ ps. HasTaken (pieces_due braid scope) ps start mid) (rest_is_end braid scope g.last is.counted ∙ ap (λ p. p ∷ []) (sym piece_is)) h
 
-pub end_put : (braid : BraidValue) (scope : Scope) (g : GradedValue) (end : End) {start mid now : Written} → IsEnded braid scope g end → HasTaken (pieces_due braid scope) (rest_from braid scope (suc g.last)) start mid →
-    Takes (end_due g.braid end (range_with_len 0 (suc g.last)) ∷ []) mid now → Takes (pieces_due braid scope) start now
-end_put braid scope g end is h t = taken_whole (taken_more [] (end_left braid scope g end is h) t)
+pub end_put : (braid : BraidValue) (scope : Scope) (g : GradedValue) (stop : Option Stop) {start mid now : Written} → IsEnded braid scope g stop → HasTaken (pieces_due braid scope) (rest_from braid scope (suc g.last)) start mid →
+    Takes (end_due g.braid stop (range_with_len 0 (suc g.last)) ∷ []) mid now → Takes (pieces_due braid scope) start now
+end_put braid scope g stop is h t = taken_whole (taken_more [] (end_left braid scope g stop is h) t)
 
-pub end_breaks : (braid : BraidValue) (scope : Scope) (g : GradedValue) (end : End) {start mid now : Written} {cause : Break} → IsEnded braid scope g end → HasTaken (pieces_due braid scope) (rest_from braid scope (suc g.last)) start mid →
-    BreaksIn (end_due g.braid end (range_with_len 0 (suc g.last)) ∷ []) mid now cause → BreaksIn (pieces_due braid scope) start now cause
-end_breaks braid scope g end is h t = taken_broken [] (end_left braid scope g end is h) t
+pub end_breaks : (braid : BraidValue) (scope : Scope) (g : GradedValue) (stop : Option Stop) {start mid now : Written} {cause : Break} → IsEnded braid scope g stop → HasTaken (pieces_due braid scope) (rest_from braid scope (suc g.last)) start mid →
+    BreaksIn (end_due g.braid stop (range_with_len 0 (suc g.last)) ∷ []) mid now cause → BreaksIn (pieces_due braid scope) start now cause
+end_breaks braid scope g stop is h t = taken_broken [] (end_left braid scope g stop is h) t
 
 -- ---- the end piece
 
-pub end_text_is : (braid : BraidValue) (end : End) (last : ℕ) {text : List ℕ} {line : EndLine} {l : ℕ} {ds es : List ℕ} {factors : Option (List ℕ)} → text ≡ end_piece line es factors → line ≡ end_line_of end l ds → l ≡ last →
-    ds ≡ dimensions_of braid (range_with_len 0 (suc last)) → es ≡ dimensions_of braid (range_with_len 0 (suc last)) → factors ≡ factors_at end (dimensions_of braid (range_with_len 0 (suc last))) →
-    piece text None ≡ end_due braid end (range_with_len 0 (suc last))
+pub end_text_is : (braid : BraidValue) (stop : Option Stop) (last : ℕ) {text : List ℕ} {line : EndLine} {l : ℕ} {ds es : List ℕ} {factors : Option (List ℕ)} → text ≡ end_piece line es factors → line ≡ end_line_of stop l ds → l ≡ last →
+    ds ≡ dimensions_of braid (range_with_len 0 (suc last)) → es ≡ dimensions_of braid (range_with_len 0 (suc last)) → factors ≡ factors_at stop (dimensions_of braid (range_with_len 0 (suc last))) →
+    piece text None ≡ end_due braid stop (range_with_len 0 (suc last))
 unfolding end_due
-end_text_is braid end last {text} {line} {l} {ds} {es} {factors} t i k d e f =
+end_text_is braid stop last {text} {line} {l} {ds} {es} {factors} t i k d e f =
     let degrees : List ℕ = range_with_len 0 (suc last) in
     let dimensions : List ℕ = dimensions_of braid degrees in
     let counted : last ≡ length degrees - 1 = omega (arith, length-range_with_len 0 (suc last)) in
     ap (λ x. piece x None)
-    (t ∙ ap (λ x. end_piece x es factors) (i ∙ ap (λ n. end_line_of end n ds) (k ∙ counted) ∙ ap (end_line_of end (length degrees - 1)) d) ∙ ap (λ x. end_piece (end_line_of end (length degrees - 1) dimensions) x factors) e ∙ ap (end_piece (end_line_of end (length degrees - 1) dimensions) dimensions) f)
+    (t ∙ ap (λ x. end_piece x es factors) (i ∙ ap (λ n. end_line_of stop n ds) (k ∙ counted) ∙ ap (end_line_of stop (length degrees - 1)) d) ∙ ap (λ x. end_piece (end_line_of stop (length degrees - 1) dimensions) x factors) e ∙ ap (end_piece (end_line_of stop (length degrees - 1) dimensions) dimensions) f)

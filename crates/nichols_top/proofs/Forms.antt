@@ -1,6 +1,6 @@
 -- The normal form of an expression, by the symmetrizer.
-use Rattle.std.proofs.Common.{◌≡◌, ℕ, Bool, true, false, cond, length, refl, sym, ◌∙◌, ap, nat_lt}
-use Rattle.std.specs.Prelude.{◌&&◌, not, nat_eq}
+use Rattle.std.proofs.Common.{◌≡◌, ℕ, Bool, true, false, cond, length, refl, sym, ◌∙◌, ap, nat_lt, Some, None}
+use Rattle.std.specs.Prelude.{◌&&◌, not, nat_eq, Option}
 use Rattle.nichols_tensor.specs.Combination.{Combination}
 use Rattle.nichols_tensor.specs.Parts.{longest}
 use Rattle.nichols_tensor.specs.Words.{IsOver}
@@ -10,8 +10,7 @@ use Rattle.nichols_braid.specs.End.{is_empty_degree}
 use Rattle.nichols_braid.specs.WholeForm.{normal_form_by_parts}
 use Rattle.nichols_lift.proofs.Readings.{one_reading}
 use Rattle.nichols_graded.specs.Graded.{GradedValue, IsGraded}
-use Rattle.nichols_graded.specs.declared.ends.End.{End}
-use Rattle.nichols_graded.specs.declared.ends.End.TheVariants as ends
+use Rattle.nichols_graded.specs.declared.ends.Stop.{Stop}
 use Rattle.nichols_reduce.specs.Normal as reduced
 use Rattle.nichols_reduce.specs.declared.answer.Normal.{Normal}
 use Rattle.nichols_reduce.specs.declared.answer.Normal.TheVariants.{Form, Beyond}
@@ -34,20 +33,20 @@ both_true : (b : Bool) → (b && true) ≡ b
 both_true true = refl
 both_true false = refl
 
-beyond_is : (g : GradedValue) (end : End) (f : Combination) → IsGraded g → HasEnd g end → reduced.is_beyond g.braid g.last f ≡ is_beyond end g.last f
+beyond_is : (g : GradedValue) (stop : Option Stop) (f : Combination) → IsGraded g → HasEnd g stop → reduced.is_beyond g.braid g.last f ≡ is_beyond stop g.last f
 unfolding reduced.is_beyond
-beyond_is g ends.Closed f is reached =
+beyond_is g None f is reached =
     ap (λ b. nat_lt g.last (longest f) && not b) (empty_alike g.braid is.braid g.last ∙ closed_is_empty g is reached) ∙ both_false (nat_lt g.last (longest f))
-beyond_is g (ends.Stopped stop) f is reached =
+beyond_is g (Some stop) f is reached =
     ap (λ b. nat_lt g.last (longest f) && not b) (empty_alike g.braid is.braid g.last ∙ (stopped_is_filled g stop is reached).filled) ∙ both_true (nat_lt g.last (longest f))
 
 -- the line of what the reduction answers
-pub normal_line_is : (g : GradedValue) (end : End) (k : ℕ) (f : Combination) (n : Normal) → IsGraded g → HasEnd g end → IsOver g.braid.letters f → n ≡ reduced.normal_of g.braid g.last f →
-    normal_line k n ≡ cond (is_beyond end g.last f) (beyond_line k g.last) (form_line k (normal_form_by_parts is_in_kernel g.braid f))
+pub normal_line_is : (g : GradedValue) (stop : Option Stop) (k : ℕ) (f : Combination) (n : Normal) → IsGraded g → HasEnd g stop → IsOver g.braid.letters f → n ≡ reduced.normal_of g.braid g.last f →
+    normal_line k n ≡ cond (is_beyond stop g.last f) (beyond_line k g.last) (form_line k (normal_form_by_parts is_in_kernel g.braid f))
 unfolding reduced.normal_of
-normal_line_is g end k f n is reached over e =
-    ap (normal_line k) e ∙ ap (λ b. normal_line k (cond b (Beyond g.last) (Form (normal_form_by_parts is_killed g.braid f)))) (beyond_is g end f is reached)
-    ∙ at (is_beyond end g.last f)
+normal_line_is g stop k f n is reached over e =
+    ap (normal_line k) e ∙ ap (λ b. normal_line k (cond b (Beyond g.last) (Form (normal_form_by_parts is_killed g.braid f)))) (beyond_is g stop f is reached)
+    ∙ at (is_beyond stop g.last f)
   where
     at : (b : Bool) → normal_line k (cond b (Beyond g.last) (Form (normal_form_by_parts is_killed g.braid f))) ≡ cond b (beyond_line k g.last) (form_line k (normal_form_by_parts is_in_kernel g.braid f))
     at true = refl

@@ -8,12 +8,11 @@ use Rattle.nichols_command.specs.declared.command.Command.{Command}
 use Rattle.nichols_command.specs.declared.command.Command.TheVariants.{OnDocument, Points}
 use Rattle.nichols_command.specs.declared.command.Task.{Task}
 use Rattle.nichols_command.specs.declared.command.Task.TheVariants.{Algebra, Reduce, Symmetrize}
-use Rattle.nichols_graded.specs.declared.ends.End.{End}
-use Rattle.nichols_graded.specs.declared.ends.End.TheVariants as end
+use Rattle.nichols_graded.specs.declared.ends.Stop.{Stop}
 use Rattle.nichols_input.specs.Document.{DocumentValue, document_in}
 use Rattle.nichols_input.specs.Refusal.{Refusal}
 use Rattle.nichols_text.specs.Refusals.{document_line, too_long_text}
-use Rattle.nichols_top.specs.Algebra.{Scope, scope_of, end_in, pieces_due, algebra_due, status_of}
+use Rattle.nichols_top.specs.Algebra.{Scope, scope_of, stop_in, pieces_due, algebra_due, status_of}
 use Rattle.nichols_top.specs.Due.{task_due, in_brief, unless_refused, command_due, is_too_long, due_under, due}
 use Rattle.nichols_top.specs.Input.{document_limit}
 use Rattle.nichols_top.specs.Reduce.{forms_due, reduce_due}
@@ -77,10 +76,10 @@ report_of report status is not_usage not_read not_write some = record {
   some = some;
 }
 
--- the report of an end
-at_end : (pieces : List Piece) (e : End) → 0 < length pieces → IsReport (record { pieces = pieces; status = status_of e })
-at_end pieces end.Closed some = report_of _ Complete refl (λ e. cc) (λ e. cc) (λ e. cc) some
-at_end pieces (end.Stopped s) some = report_of _ Stopped refl (λ e. cc) (λ e. cc) (λ e. cc) some
+-- the report of an algebra, by what stops it
+at_end : (pieces : List Piece) (e : Option Stop) → 0 < length pieces → IsReport (record { pieces = pieces; status = status_of e })
+at_end pieces None some = report_of _ Complete refl (λ e. cc) (λ e. cc) (λ e. cc) some
+at_end pieces (Some s) some = report_of _ Stopped refl (λ e. cc) (λ e. cc) (λ e. cc) some
 
 pub some_pieces : (braid : BraidValue) (scope : Scope) → 0 < length (pieces_due braid scope)
 unfolding pieces_due
@@ -88,12 +87,12 @@ some_pieces braid scope = omega arith
 
 algebra_report : (braid : BraidValue) (scope : Scope) → IsReport (algebra_due braid scope)
 unfolding algebra_due
-algebra_report braid scope = at_end (pieces_due braid scope) (end_in braid scope) (some_pieces braid scope)
+algebra_report braid scope = at_end (pieces_due braid scope) (stop_in braid scope) (some_pieces braid scope)
 
 reduce_report : (document : DocumentValue) (scope : Scope) → IsReport (reduce_due document scope)
 unfolding reduce_due
 reduce_report document scope =
-    at_end (pieces_due document.braid scope ++ forms_due document scope) (end_in document.braid scope)
+    at_end (pieces_due document.braid scope ++ forms_due document scope) (stop_in document.braid scope)
     (let some = some_pieces document.braid scope in omega (arith, length-append (pieces_due document.braid scope) (forms_due document scope), some))
 
 refused_report : (line : List ℕ) → IsReport (line_report line Refused)

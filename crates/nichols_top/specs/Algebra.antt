@@ -3,12 +3,11 @@ use Rattle.std.specs.Prelude.{ℕ, ◌-◌, Bool, List, [], ◌∷◌, ◌++◌,
 use Rattle.nichols_braid.specs.Braid.{BraidValue}
 use Rattle.nichols_braid.specs.Kernel.{is_in_kernel}
 use Rattle.nichols_braid.specs.Least.{basis, relations}
-use Rattle.nichols_braid.specs.End.{dimension}
+use Rattle.nichols_braid.specs.End.{dimension, stop_of}
 use Rattle.nichols_command.specs.declared.command.Options.{Options}
-use Rattle.nichols_graded.specs.Ends.{finished_degrees, algebra_end}
+use Rattle.nichols_graded.specs.Ends.{finished_degrees, stops_at}
 use Rattle.nichols_graded.specs.Factors.{factors_of}
-use Rattle.nichols_graded.specs.declared.ends.End.{End}
-use Rattle.nichols_graded.specs.declared.ends.End.TheVariants as end
+use Rattle.nichols_graded.specs.declared.ends.Stop.{Stop}
 use Rattle.nichols_graded.specs.declared.ends.Stop.TheVariants as stop
 use Rattle.nichols_text.specs.declared.end.EndLine.{EndLine}
 use Rattle.nichols_text.specs.declared.end.EndLine.TheVariants.{Closed, DegreeLimit, Wide, Rows}
@@ -28,9 +27,9 @@ scope_of options = record { degree_limit = options.degree_limit; rows_limit = op
 abbrev pub degrees_in : BraidValue → Scope → List ℕ
 degrees_in braid scope = finished_degrees braid scope.degree_limit scope.rows_limit
 
--- the end
-abbrev pub end_in : BraidValue → Scope → End
-end_in braid scope = algebra_end braid scope.degree_limit scope.rows_limit
+-- what stops the algebra, or nothing where it is closed
+abbrev pub stop_in : BraidValue → Scope → Option Stop
+stop_in braid scope = stop_of is_in_kernel braid (stops_at braid scope.degree_limit scope.rows_limit)
 
 -- the header
 unfoldable pub header_due : BraidValue → Scope → Piece
@@ -45,31 +44,31 @@ abbrev pub dimensions_of : BraidValue → List ℕ → List ℕ
 dimensions_of braid degrees = map (dimension is_in_kernel braid) degrees
 
 -- the end line after a last finished degree: closed after the degree before it, or stopped
-abbrev pub end_line_of : End → ℕ → List ℕ → EndLine
-end_line_of end.Closed last dimensions = Closed (last - 1) (sum dimensions)
-end_line_of (end.Stopped stop.DegreeLimit) last dimensions = DegreeLimit last
-end_line_of (end.Stopped (stop.Wide m)) last dimensions = Wide m
-end_line_of (end.Stopped (stop.Rows m product count)) last dimensions = Rows m product count
+abbrev pub end_line_of : Option Stop → ℕ → List ℕ → EndLine
+end_line_of None last dimensions = Closed (last - 1) (sum dimensions)
+end_line_of (Some stop.DegreeLimit) last dimensions = DegreeLimit last
+end_line_of (Some (stop.Wide m)) last dimensions = Wide m
+end_line_of (Some (stop.Rows m product count)) last dimensions = Rows m product count
 
 -- the factors of the Hilbert series, where the algebra is closed and it has such factors
-abbrev pub factors_at : End → List ℕ → Option (List ℕ)
-factors_at end.Closed dimensions = factors_of dimensions
-factors_at (end.Stopped s) dimensions = None
+abbrev pub factors_at : Option Stop → List ℕ → Option (List ℕ)
+factors_at None dimensions = factors_of dimensions
+factors_at (Some s) dimensions = None
 
 -- the status of an end
-abbrev pub status_of : End → Status
-status_of end.Closed = Complete
-status_of (end.Stopped s) = Stopped
+abbrev pub status_of : Option Stop → Status
+status_of None = Complete
+status_of (Some s) = Stopped
 
 -- the end piece after the finished degrees
-unfoldable pub end_due : BraidValue → End → List ℕ → Piece
+unfoldable pub end_due : BraidValue → Option Stop → List ℕ → Piece
 end_due braid e degrees =
     piece (end_piece (end_line_of e (length degrees - 1) (dimensions_of braid degrees)) (dimensions_of braid degrees) (factors_at e (dimensions_of braid degrees))) None
 
 -- the header, the finished degrees, and the end
 unfoldable pub pieces_due : BraidValue → Scope → List Piece
-pieces_due braid scope = header_due braid scope ∷ (map (degree_due braid scope.brief) (degrees_in braid scope) ++ end_due braid (end_in braid scope) (degrees_in braid scope) ∷ [])
+pieces_due braid scope = header_due braid scope ∷ (map (degree_due braid scope.brief) (degrees_in braid scope) ++ end_due braid (stop_in braid scope) (degrees_in braid scope) ∷ [])
 
 -- the report of a braid's algebra
 unfoldable pub algebra_due : BraidValue → Scope → Report
-algebra_due braid scope = record { pieces = pieces_due braid scope; status = status_of (end_in braid scope) }
+algebra_due braid scope = record { pieces = pieces_due braid scope; status = status_of (stop_in braid scope) }

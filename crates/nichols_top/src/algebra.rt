@@ -2,8 +2,11 @@
 
 ghost use Rattle.std.specs.Prelude.{◌≡◌, ◌≤◌, ◌<◌, ◌-◌, ◌^◌, suc, [], ◌∷◌, map, length, sum, option_map, IfOk};
 ghost use Rattle.std.specs.List.{range_with_len};
+ghost use Rattle.nichols_braid.specs.Kernel.{is_in_kernel};
+ghost use Rattle.nichols_braid.specs.Least.{basis, relations};
 ghost use Rattle.nichols_command.specs.Command.{AreInRange};
-ghost use Rattle.nichols_graded.specs.Ends.{finished_degrees};
+ghost use Rattle.nichols_graded.specs.Ends.{end_by, finished_degrees};
+ghost use Rattle.nichols_text.specs.Pieces.{degree_piece};
 ghost use Rattle.nichols_top.specs.Algebra.{scope_of, header_due, degree_due, dimensions_of, factors_at, end_line_of, status_of, end_due, pieces_due, algebra_due};
 ghost use Rattle.nichols_top.specs.Ended.{HasEnd, IsEnded};
 ghost use Rattle.nichols_top.specs.Written.{IsStopped, written, Puts, Writes};
@@ -14,18 +17,20 @@ use nichols_braid::Braid;
 use nichols_command::Options;
 use nichols_graded::{End, Graded, Stop};
 use nichols_io::Sink;
-use nichols_text::{EndLine, degree_text, end_text, header_text};
+use nichols_text::{EndLine, brief_degree_text, degree_text, end_text, header_text};
 use std::alloc::{AllocError, Global};
+use std::thread::Threads;
 
-/// An algebra whose end was reached.
+/// An algebra whose end was reached, with what stops it; where nothing does, it is closed.
 #[derive(Drop)]
 pub(crate) struct Ended {
     pub(crate) graded: Graded,
-    pub(crate) end: End,
+    pub(crate) stop: Option<Stop>,
 }
 
 /// Writes the report of a braid's algebra.
-pub(crate) fn put_algebra<K: Sink>(
+pub(crate) fn put_algebra<R: Threads + Sync, K: Sink>(
+    rt: &R,
     alloc: Global,
     braid: Braid,
     options: Options,
@@ -36,12 +41,13 @@ pub(crate) fn put_algebra<K: Sink>(
     ensures report { Writes (algebra_due braid (scope_of options)) (written K.taken K.faults out.old) (written K.taken K.faults out.new) result }
     ensures stopped { result ≡ Err Break.Fault → IsStopped K.taken K.faults out.old.sink.now out.new.sink.now }
 {
-    let ended = put_pieces(alloc, braid, options, out)?;
-    Ok(status_of(ended.end))
+    let ended = put_pieces(rt, alloc, braid, options, out)?;
+    Ok(status_of(ended.stop))
 }
 
 /// Writes the pieces of an algebra's report, the header, each degree once it is done, and the end; answers the algebra.
-pub(crate) fn put_pieces<K: Sink>(
+pub(crate) fn put_pieces<R: Threads + Sync, K: Sink>(
+    rt: &R,
     alloc: Global,
     braid: Braid,
     options: Options,
@@ -50,7 +56,7 @@ pub(crate) fn put_pieces<K: Sink>(
     requires { AreInRange options }
     ensures same_sink { out.new.sink.ghost_name ≡ out.old.sink.ghost_name }
     ensures pieces { Puts (pieces_due braid (scope_of options)) (written K.taken K.faults out.old) (written K.taken K.faults out.new) result }
-    ensures ended { IfOk result (λ e. IsEnded braid (scope_of options) e.graded e.end) }
+    ensures ended { IfOk result (λ e. IsEnded braid (scope_of options) e.graded e.stop) }
     ensures stopped { result ≡ Err Break.Fault → IsStopped K.taken K.faults out.old.sink.now out.new.sink.now }
 {
     put_header(alloc, &braid, options, out)?;
@@ -58,12 +64,24 @@ pub(crate) fn put_pieces<K: Sink>(
     put_degrees(alloc, &graded, 0, options.brief, out)?;
     'degrees: loop {
         let next = graded.levels().last() + 1;
-        let advance = graded.advance(alloc)?;
+        let advance = graded.advance(rt, alloc, options.workers)?;
         put_degrees(alloc, &graded, next, options.brief, out)?;
         if let Some(end) = advance.end {
-            put_end(alloc, &graded, end, out)?;
-            return Ok(Ended { graded, end });
+            let stop = stop_of(end)?;
+            put_end(alloc, &graded, stop, out)?;
+            return Ok(Ended { graded, stop });
         }
+    }
+}
+
+/// What stops an algebra that has this end, or nothing where it is closed. Want of memory for a block of the next degree is no end.
+fn stop_of(end: End) -> Result<Option<Stop>, AllocError>
+    ensures { IfOk result (λ stop. end ≡ end_by stop) }
+{
+    match end {
+        End::Closed => Ok(None),
+        End::Stopped(stop) => Ok(Some(stop)),
+        End::Starved => Err(AllocError),
     }
 }
 
@@ -104,6 +122,19 @@ fn put_degrees<K: Sink>(
     Ok(())
 }
 
+/// The text of a finished degree; in brief its least words and relations aren't listed.
+fn finished_text(alloc: Global, graded: &Graded, m: u32, brief: bool) -> Result<Vec<u8>, AllocError>
+    requires { m ≤ graded.now.last }
+    ensures { IfOk result (λ text. text.items ≡ degree_piece m (basis is_in_kernel graded.now.braid m) (relations is_in_kernel graded.now.braid m) brief) }
+{
+    if brief {
+        return brief_degree_text(alloc, m, graded.dimension(m));
+    }
+    let basis = graded.basis(alloc, m)?;
+    let relations = graded.relations(alloc, m)?;
+    degree_text(alloc, m, basis.as_slice(), relations.as_slice(), brief)
+}
+
 /// Writes the piece of a finished degree.
 fn put_degree<K: Sink>(
     alloc: Global,
@@ -117,7 +148,7 @@ fn put_degree<K: Sink>(
     ensures piece { Puts (degree_due graded.now.braid brief m ∷ []) (written K.taken K.faults out.old) (written K.taken K.faults out.new) result }
     ensures stopped { result ≡ Err Break.Fault → IsStopped K.taken K.faults out.old.sink.now out.new.sink.now }
 {
-    let text = degree_text(alloc, m, graded.basis(m), graded.relations(m), brief)?;
+    let text = finished_text(alloc, graded, m, brief)?;
     out.put(text.as_slice(), Some(m))
 }
 
@@ -125,47 +156,51 @@ fn put_degree<K: Sink>(
 fn put_end<K: Sink>(
     alloc: Global,
     graded: &Graded,
-    end: End,
+    stop: Option<Stop>,
     out: &mut Writer<'_, K>,
 ) -> Result<(), Break>
-    requires { HasEnd graded.now end }
+    requires { HasEnd graded.now stop }
     ensures same_sink { out.new.sink.ghost_name ≡ out.old.sink.ghost_name }
-    ensures piece { Puts (end_due graded.now.braid end (range_with_len 0 (suc graded.now.last)) ∷ [])
+    ensures piece { Puts (end_due graded.now.braid stop (range_with_len 0 (suc graded.now.last)) ∷ [])
         (written K.taken K.faults out.old) (written K.taken K.faults out.new) result }
     ensures stopped { result ≡ Err Break.Fault → IsStopped K.taken K.faults out.old.sink.now out.new.sink.now }
 {
     let dimensions = graded.dimensions(alloc)?;
-    let factors = factors_at(alloc, graded, end)?;
-    let line = end_line(end, graded.levels().last(), dimensions.as_slice());
+    let factors = factors_at(alloc, graded, stop)?;
+    let line = end_line(stop, graded.levels().last(), dimensions.as_slice());
     let text = end_text(alloc, &line, dimensions.as_slice(), factors.as_deref())?;
     out.put(text.as_slice(), None)
 }
 
 /// The factors of the Hilbert series, where the algebra is closed and it has such factors.
-fn factors_at(alloc: Global, graded: &Graded, end: End) -> Result<Option<Vec<u32>>, AllocError>
-    requires { HasEnd graded.now end }
-    ensures { IfOk result (λ f. option_map (λ v. v.items) f ≡ factors_at end (dimensions_of graded.now.braid (range_with_len 0 (suc graded.now.last)))) }
+fn factors_at(
+    alloc: Global,
+    graded: &Graded,
+    stop: Option<Stop>,
+) -> Result<Option<Vec<u32>>, AllocError>
+    requires { HasEnd graded.now stop }
+    ensures { IfOk result (λ f. option_map (λ v. v.items) f ≡ factors_at stop (dimensions_of graded.now.braid (range_with_len 0 (suc graded.now.last)))) }
 {
     let _levels = graded.levels();
-    match end {
-        End::Closed => graded.factors(alloc),
-        End::Stopped(_) => Ok(None),
+    match stop {
+        None => graded.factors(alloc),
+        Some(_) => Ok(None),
     }
 }
 
-/// The line of an end after the last finished degree, with the dimensions of the finished degrees.
-fn end_line(end: End, last: u32, dimensions: &[u64]) -> EndLine
+/// The line of the end after the last finished degree, by what stops the algebra, with the dimensions of the finished degrees.
+fn end_line(stop: Option<Stop>, last: u32, dimensions: &[u64]) -> EndLine
     requires { sum dimensions.now < 2 ^ 64 }
-    ensures { result ≡ end_line_of end last dimensions.now }
+    ensures { result ≡ end_line_of stop last dimensions.now }
 {
-    match end {
-        End::Closed => EndLine::Closed {
+    match stop {
+        None => EndLine::Closed {
             top: last.saturating_sub(1),
             dimension: dimensions.iter().sum(),
         },
-        End::Stopped(Stop::DegreeLimit) => EndLine::DegreeLimit { last },
-        End::Stopped(Stop::Wide(degree)) => EndLine::Wide { degree },
-        End::Stopped(
+        Some(Stop::DegreeLimit) => EndLine::DegreeLimit { last },
+        Some(Stop::Wide(degree)) => EndLine::Wide { degree },
+        Some(
             Stop::Rows {
                 degree,
                 product,
@@ -179,12 +214,12 @@ fn end_line(end: End, last: u32, dimensions: &[u64]) -> EndLine
     }
 }
 
-/// The status of an end.
-pub(crate) fn status_of(end: End) -> Status
-    ensures { result ≡ status_of end }
+/// The status of an algebra's report, by what stops it.
+pub(crate) fn status_of(stop: Option<Stop>) -> Status
+    ensures { result ≡ status_of stop }
 {
-    match end {
-        End::Closed => Status::Complete,
-        End::Stopped(_) => Status::Stopped,
+    match stop {
+        None => Status::Complete,
+        Some(_) => Status::Stopped,
     }
 }

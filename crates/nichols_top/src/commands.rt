@@ -23,9 +23,11 @@ use nichols_input::{Document, read_document};
 use nichols_io::Sink;
 use nichols_text::Refusal;
 use std::alloc::Global;
+use std::thread::Threads;
 
 /// Writes the report of a command for its document.
-pub(crate) fn put_command<K: Sink>(
+pub(crate) fn put_command<R: Threads + Sync, K: Sink>(
+    rt: &R,
     alloc: Global,
     command: Command,
     document: &[u8],
@@ -38,15 +40,16 @@ pub(crate) fn put_command<K: Sink>(
 {
     match command {
         Command::OnDocument(task) => match read_document(alloc, document) {
-            Ok(document) => put_task(alloc, task, document, out),
+            Ok(document) => put_task(rt, alloc, task, document, out),
             Err(fault) => put_refusal(alloc, &Refusal::Input(fault), out),
         },
-        Command::Points(k, options) => put_points(alloc, k, options, out),
+        Command::Points(k, options) => put_points(rt, alloc, k, options, out),
     }
 }
 
 /// Writes the report of a document that isn't refused.
-fn put_task<K: Sink>(
+fn put_task<R: Threads + Sync, K: Sink>(
+    rt: &R,
     alloc: Global,
     task: Task,
     document: Document,
@@ -61,14 +64,15 @@ fn put_task<K: Sink>(
     ensures stopped { result ≡ Err Break.Fault → IsStopped K.taken K.faults out.old.sink.now out.new.sink.now }
 {
     match task {
-        Task::Algebra(options) => put_algebra(alloc, document.braid, options, out),
-        Task::Reduce(options) => put_reduce(alloc, document, options, out),
+        Task::Algebra(options) => put_algebra(rt, alloc, document.braid, options, out),
+        Task::Reduce(options) => put_reduce(rt, alloc, document, options, out),
         Task::Symmetrize => put_symmetrize(alloc, &document, out),
     }
 }
 
 /// Writes the brief report of the braid of the transpositions of k points.
-fn put_points<K: Sink>(
+fn put_points<R: Threads + Sync, K: Sink>(
+    rt: &R,
     alloc: Global,
     k: u32,
     options: Options,
@@ -85,5 +89,5 @@ fn put_points<K: Sink>(
         brief: true,
         ..options
     };
-    put_algebra(alloc, braid, brief, out)
+    put_algebra(rt, alloc, braid, brief, out)
 }

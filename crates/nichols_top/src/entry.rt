@@ -33,7 +33,7 @@ pub(crate) const DOCUMENT_LIMIT: usize = 1_048_576;
 /// line after 1, 2 and 4; after 6 the pieces that were done, and the memory line; after 5 a part of what else would have
 /// been written.
 pub fn run<R: Threads + Sync, S: Source, K: Sink>(
-    _rt: &R,
+    rt: &R,
     alloc: Global,
     words: &[String],
     source: &mut S,
@@ -71,12 +71,13 @@ pub fn run<R: Threads + Sync, S: Source, K: Sink>(
         IfSome (read_limit (map string_bytes words.now)) (λ limit. IsAtEnd (S.left source.new) ⊎ IsLonger (S.left source.old) limit) }
 {
     let mut out = Writer::new(sink);
-    let report = put_report(alloc, words, source, &mut out);
+    let report = put_report(rt, alloc, words, source, &mut out);
     out.conclude(report).code()
 }
 
 /// Writes the report of a command line and of the document that it asks for, or the line of a source that failed.
-fn put_report<S: Source, K: Sink>(
+fn put_report<R: Threads + Sync, S: Source, K: Sink>(
+    rt: &R,
     alloc: Global,
     words: &[String],
     source: &mut S,
@@ -97,10 +98,10 @@ fn put_report<S: Source, K: Sink>(
         return put_line(usage_line(), Status::Usage, out);
     };
     let Some(limit) = document_limit(command) else {
-        return put_command(alloc, command, &[], out);
+        return put_command(rt, alloc, command, &[], out);
     };
     match read_all(alloc, source, limit) {
-        Ok(document) => put_command(alloc, command, document.as_slice(), out),
+        Ok(document) => put_command(rt, alloc, command, document.as_slice(), out),
         Err(ReadFault::TooLong) => put_refusal(alloc, &Refusal::TooLong, out),
         Err(ReadFault::Failed) => put_line(read_fault_line(), Status::ReadFault, out),
         Err(ReadFault::Memory) => Err(Break::Memory),

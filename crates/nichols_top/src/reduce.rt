@@ -23,9 +23,11 @@ use nichols_reduce::{Normal, normal};
 use nichols_text::{beyond_text, form_text};
 use nichols_words::Comb;
 use std::alloc::{AllocError, Global};
+use std::thread::Threads;
 
 /// Writes the report of the algebra of a document's braid, and the normal forms of its expressions.
-pub(crate) fn put_reduce<K: Sink>(
+pub(crate) fn put_reduce<R: Threads + Sync, K: Sink>(
+    rt: &R,
     alloc: Global,
     document: Document,
     options: Options,
@@ -40,9 +42,9 @@ pub(crate) fn put_reduce<K: Sink>(
     ensures stopped { result ≡ Err Break.Fault → IsStopped K.taken K.faults out.old.sink.now out.new.sink.now }
 {
     let Document { braid, expressions } = document;
-    let ended = put_pieces(alloc, braid, options, out)?;
+    let ended = put_pieces(rt, alloc, braid, options, out)?;
     put_forms(alloc, &ended, expressions.as_slice(), out)?;
-    Ok(status_of(ended.end))
+    Ok(status_of(ended.stop))
 }
 
 /// Writes the normal forms of expressions, numbered from 1 on.
@@ -52,12 +54,12 @@ fn put_forms<K: Sink>(
     expressions: &[Comb],
     out: &mut Writer<'_, K>,
 ) -> Result<(), Break>
-    requires reached { HasEnd ended.now.graded ended.now.end }
+    requires reached { HasEnd ended.now.graded ended.now.stop }
     requires letters { AllByRecursion (IsOver ended.now.graded.braid.letters) expressions.now }
     requires elements { AllByRecursion (AllElements ended.now.graded.braid.field) expressions.now }
     requires number { length expressions.now ≤ EXPRESSION_LIMIT }
     ensures same_sink { out.new.sink.ghost_name ≡ out.old.sink.ghost_name }
-    ensures pieces { Puts (numbered (form_due ended.now.graded.braid ended.now.end ended.now.graded.last) 1 expressions.now) (written K.taken K.faults out.old) (written K.taken K.faults out.new) result }
+    ensures pieces { Puts (numbered (form_due ended.now.graded.braid ended.now.stop ended.now.graded.last) 1 expressions.now) (written K.taken K.faults out.old) (written K.taken K.faults out.new) result }
     ensures stopped { result ≡ Err Break.Fault → IsStopped K.taken K.faults out.old.sink.now out.new.sink.now }
 {
     let mut number = 1;
@@ -76,11 +78,11 @@ fn put_form<K: Sink>(
     expression: &Comb,
     out: &mut Writer<'_, K>,
 ) -> Result<(), Break>
-    requires reached { HasEnd ended.now.graded ended.now.end }
+    requires reached { HasEnd ended.now.graded ended.now.stop }
     requires letters { IsOver ended.now.graded.braid.letters expression.now }
     requires elements { AllElements ended.now.graded.braid.field expression.now }
     ensures same_sink { out.new.sink.ghost_name ≡ out.old.sink.ghost_name }
-    ensures piece { Puts (form_due ended.now.graded.braid ended.now.end ended.now.graded.last number expression.now ∷ []) (written K.taken K.faults out.old) (written K.taken K.faults out.new) result }
+    ensures piece { Puts (form_due ended.now.graded.braid ended.now.stop ended.now.graded.last number expression.now ∷ []) (written K.taken K.faults out.old) (written K.taken K.faults out.new) result }
     ensures stopped { result ≡ Err Break.Fault → IsStopped K.taken K.faults out.old.sink.now out.new.sink.now }
 {
     let normal = normal(alloc, ended.graded.levels(), expression)?;

@@ -7,6 +7,8 @@ mod expressions;
 mod faults;
 mod plain;
 mod points;
+mod refusals;
+mod workers;
 
 use crate::run;
 use nichols_io::{MemorySink, MemorySource};

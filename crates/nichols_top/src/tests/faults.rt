@@ -1,11 +1,7 @@
-//! Runs that are refused, or in which something fails.
+//! Runs in which something fails, or whose words are no command.
 
 use super::{Run, THREE, ran};
 use std::test::Fail;
-
-/// The same table without its modulus.
-const THREE_WITHOUT_MODULUS: &str =
-    "rack = [[1, 3, 2], [3, 2, 1], [2, 1, 3]]\ncocycle = [[-1, -1, -1], [-1, -1, -1], [-1, -1, -1]]\n";
 
 const UP_TO_TWO: &[&str] = &["algebra", "--degree", "2"];
 
@@ -14,7 +10,7 @@ const USAGE: &str =
 
 /// The words, the document, the reads and the writes that fail, the text and the status, of runs that end without a
 /// report or within it.
-const FAULTS: [(&[&str], &str, &[u64], &[u64], &str, u8); 37] = [
+const FAULTS: [(&[&str], &str, &[u64], &[u64], &str, u8); 14] = [
     (&[], THREE, &[], &[], USAGE, 1),
     (&["algebra", "3"], THREE, &[], &[], USAGE, 1),
     (&["algebra", "--degree", "61"], THREE, &[], &[], USAGE, 1),
@@ -24,187 +20,10 @@ const FAULTS: [(&[&str], &str, &[u64], &[u64], &str, u8); 37] = [
     (&["points", "8"], THREE, &[], &[], USAGE, 1),
     (&["reduce", "--help"], THREE, &[], &[], USAGE, 1),
     (&["reduced"], THREE, &[], &[1], "", 5),
-    (UP_TO_TWO, "", &[], &[], "refused: missing key modulus\n", 2),
     (UP_TO_TWO, "", &[], &[1], "", 5),
-    (
-        UP_TO_TWO,
-        THREE_WITHOUT_MODULUS,
-        &[],
-        &[],
-        "refused: missing key modulus\n",
-        2,
-    ),
-    (
-        UP_TO_TWO,
-        "modulus = 101\nrack = [[1,",
-        &[],
-        &[],
-        "refused: not TOML\n",
-        2,
-    ),
-    (
-        UP_TO_TWO,
-        "modulus = 101\ncocycle = -1\ncolour = 1\n",
-        &[],
-        &[],
-        "refused: missing key rack\n",
-        2,
-    ),
-    (
-        UP_TO_TWO,
-        "modulus = 101\nrack = [[1]]\ncocycle = -1\ncolour = 1\n",
-        &[],
-        &[],
-        "refused: unknown key colour\n",
-        2,
-    ),
-    (
-        UP_TO_TWO,
-        "modulus = 101\nrack = [1]\ncocycle = -1\n",
-        &[],
-        &[],
-        "refused: wrong kind at key rack\n",
-        2,
-    ),
-    (
-        UP_TO_TWO,
-        "modulus = 15\nrack = [[2]]\ncocycle = -1\n",
-        &[],
-        &[],
-        "refused: modulus 15 not in the list\n",
-        2,
-    ),
-    (
-        UP_TO_TWO,
-        "modulus = 65522\nrack = [[1]]\ncocycle = -1\n",
-        &[],
-        &[],
-        "refused: modulus 65522 not in the list\n",
-        2,
-    ),
-    (
-        UP_TO_TWO,
-        "modulus = 101\nrack = [[1, 1], [1, 2]]\ncocycle = 1\n",
-        &[],
-        &[],
-        "refused: rack row 1 has 1 at places 1 and 2\n",
-        2,
-    ),
-    (
-        UP_TO_TWO,
-        "modulus = 101\nrack = [[1, 2], [2, 1]]\ncocycle = 1\n",
-        &[],
-        &[],
-        "refused: not distributive at 2 1 1: 2 and 1\n",
-        2,
-    ),
-    (
-        UP_TO_TWO,
-        "modulus = 7\nrack = [[1, 3, 2], [3, 2, 1], [2, 1, 3]]\ncocycle = [[1, 2, 1], [1, 1, 1], [1, 1, 1]]\n",
-        &[],
-        &[],
-        "refused: not a cocycle at 1 3 1: 2 and 1\n",
-        2,
-    ),
-    (
-        UP_TO_TWO,
-        "modulus = 101\nrack = []\ncocycle = 1\n",
-        &[],
-        &[],
-        "refused: 0 letters outside 1 to 24\n",
-        2,
-    ),
     (UP_TO_TWO, THREE, &[1], &[], "read fault\n", 4),
     (UP_TO_TWO, THREE, &[2], &[], "read fault\n", 4),
     (UP_TO_TWO, THREE, &[2], &[1], "", 5),
-    (
-        UP_TO_TWO,
-        "modulus = 11\nrack = [[1]]\ncocycle = -1\n",
-        &[],
-        &[],
-        "refused: modulus 11 not in the list\n",
-        2,
-    ),
-    (
-        UP_TO_TWO,
-        "modulus = 101\nrack = [[1, 2], [1]]\ncocycle = 1\n",
-        &[],
-        &[],
-        "refused: rack row 2 has a wrong length\n",
-        2,
-    ),
-    (
-        UP_TO_TWO,
-        "modulus = 101\nrack = [[1, 2], [1, 3]]\ncocycle = 1\n",
-        &[],
-        &[],
-        "refused: rack entry 2 2 is 3\n",
-        2,
-    ),
-    (
-        UP_TO_TWO,
-        "modulus = 101\nrack = [[1, 2, 3], [1, 2, 3], [3, 2, 2]]\ncocycle = 1\n",
-        &[],
-        &[],
-        "refused: rack row 3 has 2 at places 2 and 3\n",
-        2,
-    ),
-    (
-        UP_TO_TWO,
-        "modulus = 101\nrack = [[1, 2], [1, 2]]\ncocycle = [[1, 1], [1, 1], [1, 1]]\n",
-        &[],
-        &[],
-        "refused: cocycle row 3 is missing, surplus or of a wrong length\n",
-        2,
-    ),
-    (
-        UP_TO_TWO,
-        "modulus = 101\nrack = [[1, 2], [1, 2]]\ncocycle = [[1, 1], [101, 1]]\n",
-        &[],
-        &[],
-        "refused: cocycle entry 2 1 is zero\n",
-        2,
-    ),
-    (
-        UP_TO_TWO,
-        "modulus = 101\nrack = [[1]]\ncocycle = -1\nexpressions = [\"1\", \"1 +\"]\n",
-        &[],
-        &[],
-        "refused: expression 2 at byte 4: text ends too early\n",
-        2,
-    ),
-    (
-        UP_TO_TWO,
-        "modulus = 101\nrack = [[1]]\ncocycle = -1\nexpressions = [\"1\", \"1,1\"]\n",
-        &[],
-        &[],
-        "refused: expression 2 at byte 2: unexpected byte\n",
-        2,
-    ),
-    (
-        UP_TO_TWO,
-        "modulus = 101\nrack = [[1]]\ncocycle = -1\nexpressions = [\"1\", \"1 - 1234567890*1\"]\n",
-        &[],
-        &[],
-        "refused: expression 2 at byte 5: number longer than 9 digits\n",
-        2,
-    ),
-    (
-        &["algebra", "--degree", "0"],
-        "modulus = 101\nrack = [[1]]\ncocycle = -1\nexpressions = [\"1\", \"1 + 2\"]\n",
-        &[],
-        &[],
-        "refused: expression 2 at byte 5: letter outside the rack\n",
-        2,
-    ),
-    (
-        &["symmetrize"],
-        "modulus = 101\nrack = [[1, 3, 2], [3, 2, 1], [2, 1, 3]]\ncocycle = -1\nexpressions = [\"1.2 + 2.3 + 3.1\", \"1.2\", \"1.1.1.1.1.1.1.1\"]\n",
-        &[],
-        &[],
-        "refused: expression 3 longer than 7 letters\n",
-        2,
-    ),
     (
         &["points", "3", "--degree", "0"],
         "",
@@ -268,53 +87,21 @@ fn a_sink_fails_after_each_number_of_writes(rt: HostRuntime) -> Result<(), Fail>
 }
 
 #[test]
-fn blanks_are_an_empty_document(rt: HostRuntime) -> Result<(), Fail> {
-    let alloc = rt.alloc();
-    let rows = [
-        (1_048_576, "refused: missing key modulus\n"),
-        (1_048_577, "refused: document longer than 1048576 bytes\n"),
-    ];
-    for (length, text) in rows {
-        let document = vec![in alloc; b' '; length]?;
-        let given = Run {
-            words: &["algebra"],
-            document: document.as_slice(),
-            reads: &[],
-            writes: &[],
-            most: 4096,
-        };
-        let (written, ended) = ran(&rt, alloc, given)?;
-        assert_eq!(rt; written.as_slice(), text.as_bytes(), "of {length} bytes");
-        assert_eq!(rt; ended, 2, "of {length} bytes");
-    }
-    Ok(())
-}
-
-#[test]
 fn the_longest_document_is_read(rt: HostRuntime) -> Result<(), Fail> {
     let alloc = rt.alloc();
+    let mut document = THREE.as_bytes().to_vec(alloc)?;
+    document.resize(1_048_576, b'\n')?;
+    let given = Run {
+        words: &["algebra", "--degree", "0"],
+        document: document.as_slice(),
+        reads: &[],
+        writes: &[],
+        most: 4096,
+    };
+    let (written, ended) = ran(&rt, alloc, given)?;
     let report =
         "nichols p 101 letters 3 degree 0 rows 1024\ndegree 0 dimension 1\nbasis e\nstopped degree limit last 0\nhilbert 1\n";
-    for (length, text, status) in [
-        (1_048_576, report, 3),
-        (
-            1_048_577,
-            "refused: document longer than 1048576 bytes\n",
-            2,
-        ),
-    ] {
-        let mut document = THREE.as_bytes().to_vec(alloc)?;
-        document.resize(length, b'\n')?;
-        let given = Run {
-            words: &["algebra", "--degree", "0"],
-            document: document.as_slice(),
-            reads: &[],
-            writes: &[],
-            most: 4096,
-        };
-        let (written, ended) = ran(&rt, alloc, given)?;
-        assert_eq!(rt; written.as_slice(), text.as_bytes(), "of {length} bytes");
-        assert_eq!(rt; ended, status, "of {length} bytes");
-    }
+    assert_eq!(rt; written.as_slice(), report.as_bytes());
+    assert_eq!(rt; ended, 3);
     Ok(())
 }

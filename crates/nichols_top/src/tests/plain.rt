@@ -7,6 +7,7 @@ use nichols_plain::plain_degree;
 use nichols_words::Relation;
 use std::alloc::{AllocError, Global};
 use std::test::Fail;
+use std::thread::Threads;
 
 fn table(alloc: Global, entries: &[&[i64]]) -> Result<Vec<Vec<i64>>, AllocError> {
     let mut out = Vec::new(alloc);
@@ -44,6 +45,13 @@ fn two_letters(alloc: Global) -> Result<Braid, Fail> {
     braid(alloc, 101, &[&[1, 2], &[1, 2]], &Scalars::Table(scalars))
 }
 
+/// The three transpositions over five elements, with scalars that differ.
+fn twisted(alloc: Global) -> Result<Braid, Fail> {
+    let rack: [&[i64]; 3] = [&[1, 3, 2], &[3, 2, 1], &[2, 1, 3]];
+    let scalars = table(alloc, &[&[3, 3, 3], &[1, 3, -1], &[1, -1, -2]])?;
+    braid(alloc, 5, &rack, &Scalars::Table(scalars))
+}
+
 fn are_same(left: &[Relation], right: &[Relation]) -> bool {
     left.len() == right.len()
         && left.iter().zip(right).all(|(one, other)| {
@@ -58,18 +66,28 @@ fn is_plain(alloc: Global, graded: &Graded, m: u32) -> Result<bool, Fail> {
         return Err("not within the limits".into());
     }
     let plain = plain_degree(alloc, braid, m)?;
-    Ok(graded.basis(m) == plain.basis.as_slice() && are_same(graded.relations(m), &plain.relations))
+    let basis = graded.basis(alloc, m)?;
+    let relations = graded.relations(alloc, m)?;
+    Ok(
+        basis.as_slice() == plain.basis.as_slice()
+            && are_same(relations.as_slice(), plain.relations.as_slice()),
+    )
 }
 
 /// Whether so many degrees, from 0 on, are those of the plain program.
-fn are_plain(alloc: Global, braid: Braid, degrees: u32) -> Result<bool, Fail> {
+fn are_plain<R: Threads + Sync>(
+    rt: &R,
+    alloc: Global,
+    braid: Braid,
+    degrees: u32,
+) -> Result<bool, Fail> {
     let mut graded = Graded::start(alloc, braid, 12, 1024)?;
     for m in 0..degrees {
         if m > 0 {
             if graded.ended() {
                 return Err("ended early".into());
             }
-            graded.advance(alloc)?;
+            graded.advance(rt, alloc, 3)?;
         }
         if !is_plain(alloc, &graded, m)? {
             return Ok(false);
@@ -86,11 +104,12 @@ fn degrees_of_the_plain_program(rt: HostRuntime) -> Result<(), Fail> {
         (three_transpositions(alloc)?, 5),
         (tetrahedron(alloc)?, 4),
         (two_letters(alloc)?, 6),
+        (twisted(alloc)?, 5),
     ];
     for (braid, degrees) in rows {
         let letters = braid.letters();
         assert!(rt;
-            are_plain(alloc, braid, degrees)?,
+            are_plain(&rt, alloc, braid, degrees)?,
             "{degrees} degrees of {letters} letters"
         );
     }

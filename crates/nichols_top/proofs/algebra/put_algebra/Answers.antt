@@ -11,4 +11,4 @@ returns-in_err-ended-clause-report g c =
 
 pub returns-clause-report : goal.returns-clause-report
 unfolding algebra_due
-returns-clause-report g c = (c.status_of.ensures ∙ ap status_of c.in_ok-ended.ensures.ended.end_is, c.in_ok-ended.ensures.pieces)
+returns-clause-report g c = (c.status_of.ensures ∙ ap status_of c.in_ok-ended.ensures.ended.stop_is, c.in_ok-ended.ensures.pieces)

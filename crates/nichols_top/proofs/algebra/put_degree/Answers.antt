@@ -1,4 +1,4 @@
-use Rattle.std.proofs.Common.{◌≡◌, ◌∙◌, ap, arith}
+use Rattle.std.proofs.Common.{◌≡◌, ◌∙◌, arith}
 use Rattle.std.proofs.lemmas.Result.{err_from_is_err_and}
 use Rattle.nichols_braid.specs.Kernel.{is_in_kernel}
 use Rattle.nichols_braid.specs.Least.{basis, relations}
@@ -15,8 +15,5 @@ unfolding degree_due
 returns-clause-piece g c =
     let braid = c.args.graded.now.braid in
     let m = c.args.m in
-    let text : c.as_slice.result.now ≡ degree_piece m (basis is_in_kernel braid m) (relations is_in_kernel braid m) c.args.brief =
-    c.as_slice.ensures.value ∙ c.in_ok-text.ensures
-    ∙ ap (λ ws. degree_piece m ws c.relations.result.now c.args.brief) c.basis.ensures
-    ∙ ap (λ rs. degree_piece m (basis is_in_kernel braid m) rs c.args.brief) c.relations.ensures in
+    let text : c.as_slice.result.now ≡ degree_piece m (basis is_in_kernel braid m) (relations is_in_kernel braid m) c.args.brief = c.as_slice.ensures.value ∙ c.in_ok-text.ensures in
     rw (← text) c.put.ensures.piece

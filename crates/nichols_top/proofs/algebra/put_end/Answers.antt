@@ -17,10 +17,10 @@ pub returns-in_err-text-clause-piece : goal.returns-in_err-text-clause-piece
 returns-in_err-text-clause-piece g c = let p = err_from_is_err_and c.from_residual-in_err-text.result c.from_residual-in_err-text.ensures.1 in rw (p.1, p.2) (no_memory_first (omega arith))
 
 pub end_text-requires : goal.end_text-requires
-end_text-requires g c = subst StopsLater (sym c.end_line-line.ensures) (later_line c.args.graded.now c.args.end c.last.result c.as_slice.result.now c.levels.ensures.graded c.requires)
+end_text-requires g c = subst StopsLater (sym c.end_line-line.ensures) (later_line c.args.graded.now c.args.stop c.last.result c.as_slice.result.now c.levels.ensures.graded c.requires)
 
 pub returns-clause-piece : goal.returns-clause-piece
 returns-clause-piece g c =
     let factors : option_map (λ s. s.now) c.as_deref.result ≡ option_map (λ v. v.items) c.in_ok-factors.factors = c.as_deref.ensures.value in
-    rw (← (end_text_is c.args.graded.now.braid c.args.end c.args.graded.now.last (c.as_slice-3.ensures.value ∙ c.in_ok-text.ensures) c.end_line-line.ensures (c.last.ensures.value ∙ c.levels.ensures.last)
+    rw (← (end_text_is c.args.graded.now.braid c.args.stop c.args.graded.now.last (c.as_slice-3.ensures.value ∙ c.in_ok-text.ensures) c.end_line-line.ensures (c.last.ensures.value ∙ c.levels.ensures.last)
     (c.as_slice.ensures.value ∙ c.in_ok-dimensions.ensures.dimensions) (c.as_slice-2.ensures.value ∙ c.in_ok-dimensions.ensures.dimensions) (factors ∙ c.in_ok-factors.ensures))) c.put.ensures.piece

@@ -3,7 +3,7 @@ use Rattle.std.specs.Prelude.{is_some}
 use Rattle.std.proofs.lemmas.Result.{err_from_is_err_and}
 use Rattle.nichols_top.specs.Algebra.{scope_of}
 use Rattle.nichols_top.specs.declared.writer.Break.TheVariants.{Fault}
-use Rattle.nichols_top.proofs.Finishing.{IsAlgebra, ended_at, header_put, header_breaks, next_breaks, degrees_put, degrees_break, end_put, end_breaks, taken_at, fewer}
+use Rattle.nichols_top.proofs.Finishing.{IsAlgebra, ended_at, header_put, header_breaks, next_breaks, degrees_put, degrees_break, end_put, end_breaks, end_told, taken_at, fewer}
 use Rattle.nichols_top.proofs.algebra.put_pieces.Goals as goal
 
 pub returns-in_err-put_header-clause-pieces : goal.returns-in_err-put_header-clause-pieces
@@ -94,6 +94,18 @@ returns-in_err-put_degrees-2-clause-stopped g c = λ e.
     let h = c.in_err-put_degrees-2.ensures.stopped (ap Err (sym p.2 ∙ cause)) in
     (h.0, h.1 ∙ c.degrees.invariant.taken.takes.sink.kept, h.2)
 
+pub returns-in_err-stop-clause-pieces : goal.returns-in_err-stop-clause-pieces
+returns-in_err-stop-clause-pieces g c =
+    let p = err_from_is_err_and c.from_residual-in_err-stop.result c.from_residual-in_err-stop.ensures.1 in
+    let e = c.last-next.ensures.value ∙ c.levels.ensures.last in
+    let more = c.in_ok-advance.ensures.finished in
+    let is : IsAlgebra c.args.braid (scope_of c.args.options) c.advance.new.self =
+    record { braid_is = c.in_ok-advance.ensures.braid ∙ c.degrees.invariant.algebra.braid_is; limit_is = c.in_ok-advance.ensures.limit ∙ c.degrees.invariant.algebra.limit_is; rows_is = c.in_ok-advance.ensures.rows ∙ c.degrees.invariant.algebra.rows_is } in
+    rw (p.1, p.2)
+    (next_breaks c.args.braid (scope_of c.args.options) (suc c.advance.new.self.last)
+    (degrees_put c.args.braid (scope_of c.args.options) (c.last-next.result + 1) c.advance.new.self is (omega (arith, e, more)) c.in_ok-put_degrees-2.ensures.finished
+    (taken_at c.args.braid (scope_of c.args.options) (c.last-next.result + 1) (omega (arith, e)) c.degrees.invariant.taken) c.in_ok-put_degrees-2.ensures.pieces))
+
 pub returns-in_err-put_end-clause-pieces : goal.returns-in_err-put_end-clause-pieces
 returns-in_err-put_end-clause-pieces g c =
     let p = err_from_is_err_and c.from_residual-in_err-put_end.result c.from_residual-in_err-put_end.ensures.1 in
@@ -102,7 +114,7 @@ returns-in_err-put_end-clause-pieces g c =
     let is : IsAlgebra c.args.braid (scope_of c.args.options) c.advance.new.self =
     record { braid_is = c.in_ok-advance.ensures.braid ∙ c.degrees.invariant.algebra.braid_is; limit_is = c.in_ok-advance.ensures.limit ∙ c.degrees.invariant.algebra.limit_is; rows_is = c.in_ok-advance.ensures.rows ∙ c.degrees.invariant.algebra.rows_is } in
     rw (p.1, p.2)
-    (end_breaks c.args.braid (scope_of c.args.options) c.advance.new.self c.in-Some.end (ended_at c.args.braid (scope_of c.args.options) c.advance.new.self c.in-Some.end is (sym c.in_ok-advance.ensures.end ∙ c.in-Some.is))
+    (end_breaks c.args.braid (scope_of c.args.options) c.advance.new.self c.in_ok-stop.stop (ended_at c.args.braid (scope_of c.args.options) c.advance.new.self c.in_ok-stop.stop is (end_told c.advance.new.self c.in_ok-advance.advance c.in-Some.end c.in_ok-stop.stop c.in_ok-advance.ensures.end c.in-Some.is c.in_ok-stop.ensures))
     (degrees_put c.args.braid (scope_of c.args.options) (c.last-next.result + 1) c.advance.new.self is (omega (arith, e, more)) c.in_ok-put_degrees-2.ensures.finished
     (taken_at c.args.braid (scope_of c.args.options) (c.last-next.result + 1) (omega (arith, e)) c.degrees.invariant.taken) c.in_ok-put_degrees-2.ensures.pieces)
     c.in_err-put_end.ensures.piece)
@@ -121,7 +133,7 @@ returns-in-Some-clause-pieces g c =
     let more = c.in_ok-advance.ensures.finished in
     let is : IsAlgebra c.args.braid (scope_of c.args.options) c.advance.new.self =
     record { braid_is = c.in_ok-advance.ensures.braid ∙ c.degrees.invariant.algebra.braid_is; limit_is = c.in_ok-advance.ensures.limit ∙ c.degrees.invariant.algebra.limit_is; rows_is = c.in_ok-advance.ensures.rows ∙ c.degrees.invariant.algebra.rows_is } in
-    end_put c.args.braid (scope_of c.args.options) c.advance.new.self c.in-Some.end (ended_at c.args.braid (scope_of c.args.options) c.advance.new.self c.in-Some.end is (sym c.in_ok-advance.ensures.end ∙ c.in-Some.is))
+    end_put c.args.braid (scope_of c.args.options) c.advance.new.self c.in_ok-stop.stop (ended_at c.args.braid (scope_of c.args.options) c.advance.new.self c.in_ok-stop.stop is (end_told c.advance.new.self c.in_ok-advance.advance c.in-Some.end c.in_ok-stop.stop c.in_ok-advance.ensures.end c.in-Some.is c.in_ok-stop.ensures))
     (degrees_put c.args.braid (scope_of c.args.options) (c.last-next.result + 1) c.advance.new.self is (omega (arith, e, more)) c.in_ok-put_degrees-2.ensures.finished
     (taken_at c.args.braid (scope_of c.args.options) (c.last-next.result + 1) (omega (arith, e)) c.degrees.invariant.taken) c.in_ok-put_degrees-2.ensures.pieces)
     c.in_ok-put_end.ensures.piece
@@ -130,4 +142,4 @@ pub returns-in-Some-clause-ended : goal.returns-in-Some-clause-ended
 returns-in-Some-clause-ended g c =
     let is : IsAlgebra c.args.braid (scope_of c.args.options) c.advance.new.self =
     record { braid_is = c.in_ok-advance.ensures.braid ∙ c.degrees.invariant.algebra.braid_is; limit_is = c.in_ok-advance.ensures.limit ∙ c.degrees.invariant.algebra.limit_is; rows_is = c.in_ok-advance.ensures.rows ∙ c.degrees.invariant.algebra.rows_is } in
-    ended_at c.args.braid (scope_of c.args.options) c.advance.new.self c.in-Some.end is (sym c.in_ok-advance.ensures.end ∙ c.in-Some.is)
+    ended_at c.args.braid (scope_of c.args.options) c.advance.new.self c.in_ok-stop.stop is (end_told c.advance.new.self c.in_ok-advance.advance c.in-Some.end c.in_ok-stop.stop c.in_ok-advance.ensures.end c.in-Some.is c.in_ok-stop.ensures)

@@ -18,4 +18,4 @@ returns-clause-piece g c =
     let graded = c.args.ended.now.graded in
     let answer : c.in_ok-normal.normal ≡ normal_of graded.braid graded.last c.args.expression.now =
     c.in_ok-normal.ensures ∙ ap (λ b. normal_of b c.levels.result.now.last c.args.expression.now) c.levels.ensures.braid ∙ ap (λ m. normal_of graded.braid m c.args.expression.now) c.levels.ensures.last in
-    rw (← (c.as_slice.ensures.value ∙ c.in_ok-text.ensures ∙ normal_line_is graded c.args.ended.now.end c.args.number c.args.expression.now c.in_ok-normal.normal c.levels.ensures.graded c.requires.reached c.requires.letters answer)) c.put.ensures.piece
+    rw (← (c.as_slice.ensures.value ∙ c.in_ok-text.ensures ∙ normal_line_is graded c.args.ended.now.stop c.args.number c.args.expression.now c.in_ok-normal.normal c.levels.ensures.graded c.requires.reached c.requires.letters answer)) c.put.ensures.piece

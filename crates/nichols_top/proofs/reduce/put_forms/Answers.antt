@@ -5,14 +5,14 @@ use Rattle.nichols_top.proofs.Numbered.{IsAt, numbered_start, numbered_put, numb
 use Rattle.nichols_top.proofs.reduce.put_forms.Goals as goal
 
 pub loop-expression-init : goal.loop-expression-init
-loop-expression-init g c = record { same_sink = refl; number = refl; taken = numbered_start (form_due c.args.ended.now.graded.braid c.args.ended.now.end c.args.ended.now.graded.last) 1 c.args.expressions.now }
+loop-expression-init g c = record { same_sink = refl; number = refl; taken = numbered_start (form_due c.args.ended.now.graded.braid c.args.ended.now.stop c.args.ended.now.graded.last) 1 c.args.expressions.now }
 
 pub returns-in_err-put_form-clause-pieces : goal.returns-in_err-put_form-clause-pieces
 returns-in_err-put_form-clause-pieces g c =
     let p = err_from_is_err_and c.from_residual.result c.from_residual.ensures.1 in
     let at : IsAt 1 c.args.expressions.now c.loop-expression.expression-index c.loop-expression.number c.expression-item.result =
     record { less = c.loop-expression-test.true; item = c.expression-item.is; number = c.loop-expression.invariant.number } in
-    rw (p.1, p.2) (numbered_breaks (form_due c.args.ended.now.graded.braid c.args.ended.now.end c.args.ended.now.graded.last) 1 c.args.expressions.now c.loop-expression.expression-index c.loop-expression.number c.expression-item.result at c.loop-expression.invariant.taken c.in_err-put_form.ensures.piece)
+    rw (p.1, p.2) (numbered_breaks (form_due c.args.ended.now.graded.braid c.args.ended.now.stop c.args.ended.now.graded.last) 1 c.args.expressions.now c.loop-expression.expression-index c.loop-expression.number c.expression-item.result at c.loop-expression.invariant.taken c.in_err-put_form.ensures.piece)
 
 pub loop-expression-preserved : goal.loop-expression-preserved
 loop-expression-preserved g c =
@@ -21,8 +21,8 @@ loop-expression-preserved g c =
     record {
       same_sink = c.in_ok-put_form.ensures.same_sink ∙ c.loop-expression.invariant.same_sink;
       number = omega (arith, c.loop-expression.invariant.number);
-      taken = numbered_put (form_due c.args.ended.now.graded.braid c.args.ended.now.end c.args.ended.now.graded.last) 1 c.args.expressions.now c.loop-expression.expression-index c.loop-expression.number c.expression-item.result at c.loop-expression.invariant.taken c.in_ok-put_form.ensures.piece;
+      taken = numbered_put (form_due c.args.ended.now.graded.braid c.args.ended.now.stop c.args.ended.now.graded.last) 1 c.args.expressions.now c.loop-expression.expression-index c.loop-expression.number c.expression-item.result at c.loop-expression.invariant.taken c.in_ok-put_form.ensures.piece;
     }
 
 pub returns-clause-pieces : goal.returns-clause-pieces
-returns-clause-pieces g c = numbered_whole (form_due c.args.ended.now.graded.braid c.args.ended.now.end c.args.ended.now.graded.last) 1 c.args.expressions.now c.loop-expression.expression-index (omega arith) c.loop-expression.invariant.taken
+returns-clause-pieces g c = numbered_whole (form_due c.args.ended.now.graded.braid c.args.ended.now.stop c.args.ended.now.graded.last) 1 c.args.expressions.now c.loop-expression.expression-index (omega arith) c.loop-expression.invariant.taken

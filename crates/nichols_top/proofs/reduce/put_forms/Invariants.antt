@@ -10,6 +10,6 @@ abbrev pub invariant-loop-expression : goal.invariant-loop-expression
 invariant-loop-expression g l = record {
   same_sink : l.out.sink.ghost_name ≡ l.fn.out.sink.ghost_name;
   number : l.number ≡ 1 + l.expression-index;
-  taken : HasTaken (numbered (form_due l.ended.graded.braid l.ended.end l.ended.graded.last) 1 l.expressions) (numbered_from (form_due l.ended.graded.braid l.ended.end l.ended.graded.last) 1 l.expressions l.expression-index)
+  taken : HasTaken (numbered (form_due l.ended.graded.braid l.ended.stop l.ended.graded.last) 1 l.expressions) (numbered_from (form_due l.ended.graded.braid l.ended.stop l.ended.graded.last) 1 l.expressions l.expression-index)
       (written g.K.Sink.taken g.K.Sink.faults l.fn.out) (written g.K.Sink.taken g.K.Sink.faults l.out);
 }

@@ -14,7 +14,7 @@ pub returns-in_err-put_forms-clause-report : goal.returns-in_err-put_forms-claus
 returns-in_err-put_forms-clause-report g c =
     let p = err_from_is_err_and c.from_residual-in_err-put_forms.result c.from_residual-in_err-put_forms.ensures.1 in
     rw (p.1, p.2, ← c.document.view_is)
-    (reduce_breaks (record { braid = c.document.inside.braid; expressions = c.document.inside.expressions.items }) (scope_of c.args.options) c.in_ok-ended.ended.graded c.in_ok-ended.ended.end c.in_ok-ended.ensures.ended c.in_ok-ended.ensures.pieces
+    (reduce_breaks (record { braid = c.document.inside.braid; expressions = c.document.inside.expressions.items }) (scope_of c.args.options) c.in_ok-ended.ended.graded c.in_ok-ended.ended.stop c.in_ok-ended.ensures.ended c.in_ok-ended.ensures.pieces
     (rw (← c.as_slice.ensures.value) c.in_err-put_forms.ensures.pieces))
 
 pub returns-in_err-put_forms-clause-stopped : goal.returns-in_err-put_forms-clause-stopped
@@ -28,5 +28,5 @@ returns-in_err-put_forms-clause-stopped g c = λ e.
 pub returns-clause-report : goal.returns-clause-report
 returns-clause-report g c =
     rw (← c.document.view_is)
-    (reduce_whole (record { braid = c.document.inside.braid; expressions = c.document.inside.expressions.items }) (scope_of c.args.options) c.in_ok-ended.ended.graded c.in_ok-ended.ended.end c.status_of.result c.in_ok-ended.ensures.ended c.status_of.ensures c.in_ok-ended.ensures.pieces
+    (reduce_whole (record { braid = c.document.inside.braid; expressions = c.document.inside.expressions.items }) (scope_of c.args.options) c.in_ok-ended.ended.graded c.in_ok-ended.ended.stop c.status_of.result c.in_ok-ended.ensures.ended c.status_of.ensures c.in_ok-ended.ensures.pieces
     (rw (← c.as_slice.ensures.value) c.in_ok-put_forms.ensures.pieces))
