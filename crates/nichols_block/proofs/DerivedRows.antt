@@ -4,16 +4,14 @@ use Rattle.std.specs.List.{AllByRecursion, Contains}
 use Rattle.std.proofs.lemmas.Bool.{cases_lt}
 use Rattle.std.proofs.lemmas.List.{get_or_append_left, length-append}
 use Rattle.std.proofs.Math.Seq.{get_or-append_seam}
-use Rattle.nichols_field.specs.Field.{FieldValue, IsField, plus}
-use Rattle.nichols_field.proofs.FieldAlgebra.{zero_plus}
+use Rattle.nichols_field.specs.Field.{FieldValue}
 use Rattle.nichols_tensor.specs.Combination.{AllAmong, AllElements, Combination, single, value_at}
 use Rattle.nichols_tensor.specs.Positions.{word_at}
 use Rattle.nichols_tensor.specs.Words.{IsWordOver}
 use Rattle.nichols_tensor.specs.WordOrder.{IsOrdered, IsRising}
-use Rattle.nichols_tensor.proofs.Entries.{contains_none}
 use Rattle.nichols_tensor.proofs.Rising.{word_at_is_in}
 use Rattle.nichols_braid.specs.Braid.{BraidValue, IsBraid, IsLetter}
-use Rattle.nichols_braid.specs.Derivation.{derived}
+use Rattle.nichols_braid.specs.Derivation.{skew_derivative}
 use Rattle.nichols_braid.specs.Forms.{derived_form}
 use Rattle.nichols_braid.specs.Kernel.{is_killed}
 use Rattle.nichols_braid.specs.LeastLaws.{IsNormalForm}
@@ -23,21 +21,21 @@ use Rattle.nichols_braid.proofs.BraidLaws.{killed_is_ideal_from_right}
 use Rattle.nichols_braid.proofs.FormsOfDerivatives.{derived_form_is_normal}
 use Rattle.nichols_braid.proofs.Lists.{map-map}
 use Rattle.nichols_braid.proofs.NextProducts.{products_size}
-use Rattle.nichols_echelon.specs.Cells.{AllBelow, Cell, IsRow, entry}
-use Rattle.nichols_echelon.specs.Cells.{AllElements as AllCellsElements}
+use Rattle.nichols_echelon.specs.Cells.{AllBelow, IsRow, entry}
 use Rattle.nichols_echelon.specs.Rows.{RowsValue}
 use Rattle.nichols_echelon.specs.Sums.{IsDrained, IsSumRow}
-use Rattle.nichols_echelon.proofs.Entries.{cell_elsewhere, entry-cons, entry_first, entry_is_element}
 use Rattle.nichols_rows.specs.CombinationAt.{combination_at}
 use Rattle.nichols_value.specs.declared.spot.Spot.{Spot}
 use Rattle.nichols_value.specs.Block.{lower_basis}
 use Rattle.nichols_value.specs.Kept.{IsSpot}
 use Rattle.nichols_value.proofs.Blocks.{derived_in_block, from_lower_basis}
-use Rattle.nichols_value.proofs.FormCells.{cells_of_form}
-use Rattle.nichols_value.proofs.Readings.{right_word}
+use Rattle.nichols_value.proofs.FormCells.{cells_of_form, none_among}
+use Rattle.nichols_value.proofs.RuleEntries.{right_word}
+use Rattle.nichols_value.proofs.KeptRows.{no_rows}
 use Rattle.nichols_block.specs.Rows.{AreNewDerivatives, AreRowsOf, AreSpotsOf, AreSums, HasNewRow, candidate_at, lower_words, rows_by}
 use Rattle.nichols_block.specs.Words.{block_new_words}
 use Rattle.nichols_block.proofs.SpotsBelow.{spot_letter, spot_place, words_at_letter}
+use Rattle.nichols_block.proofs.SumForms.{below_by_entries}
 
 -- ---- the word at a spot
 
@@ -70,7 +68,7 @@ pub record IsFormIn (braid : BraidValue) (ws : List (List ℕ)) (f : Combination
 
 derived_in : (braid : BraidValue) → IsBraid braid → (m : ℕ) (g w : List ℕ) → IsInBlock braid (suc m) g w → (a : ℕ) → IsLetter braid a → IsFormIn braid (lower_basis braid (suc m) g a) (derived_form is_killed braid (suc m) w a)
 derived_in braid is m g w h a la =
-    let n : IsNormalForm is_killed braid m (derived braid a (single w)) (derived_form is_killed braid (suc m) w a) = derived_form_is_normal is_killed braid is (killed_is_ideal_from_right braid is) m w a h.size h.over la in
+    let n : IsNormalForm is_killed braid m (skew_derivative braid a (single w)) (derived_form is_killed braid (suc m) w a) = derived_form_is_normal is_killed braid is (killed_is_ideal_from_right braid is) m w a h.size h.over la in
     record { among = derived_in_block braid is (suc m) g w h.size h.over h.product a la; ordered = n.ordered; elements = n.elements }
 
 pub derived_in_next : (braid : BraidValue) → IsBraid braid → (degree : ℕ) (g w : List ℕ) → 1 ≤ degree → IsInBlock braid degree g w → (a : ℕ) → IsLetter braid a → IsFormIn braid (lower_basis braid degree g a) (derived_form is_killed braid degree w a)
@@ -78,22 +76,6 @@ derived_in_next braid is zero g w some h a la = absurd (omega arith)
 derived_in_next braid is (suc m) g w some h a la = derived_in braid is m g w h a la
 
 -- ---- the row of sums
-
--- a row with no entry from a place on ends before it
-below_from_entries : (k : FieldValue) → IsField k → (n : ℕ) (cells : List Cell) → IsRow cells → AllCellsElements k cells → ((p : ℕ) → n ≤ p → entry k cells p ≡ 0) → AllBelow n cells
-below_from_entries k is n [] row elements none = tt
-below_from_entries k is n (c ∷ cells) row elements none = (first, below_from_entries k is n cells (record { rising = row.rising.1; nonzero = row.nonzero.1 }) elements.1 rest)
-  where
-    first : c.column < n
-    first =
-        elim (cases_lt c.column n) [
-          | inl less ↦ less
-          | inr more ↦ absurd (row.nonzero.0 (sym (entry_first k is c cells row elements.0) ∙ none c.column more))
-        ]
-
-    rest : (p : ℕ) → n ≤ p → entry k cells p ≡ 0
-    rest p more =
-        sym (entry-cons k c cells p ∙ ap (λ m. plus k m (entry k cells p)) (cell_elsewhere c p (λ e. let z : c.column ≡ p = e in let y : c.column < n = first in omega arith)) ∙ zero_plus k (entry k cells p) (entry_is_element k is cells p)) ∙ none p more
 
 pub row_of_sums : (braid : BraidValue) → IsBraid braid → (k : FieldValue) → k ≡ braid.field → (ws : List (List ℕ)) → IsRising ws → (f : Combination) → IsFormIn braid ws f → (values : List ℕ) → AreSums braid.field ws values f → (before after : RowsValue) →
     IsDrained k values before after → HasNewRow ws f before after
@@ -103,7 +85,7 @@ row_of_sums braid is k k_is ws rising f form values sums before after drained = 
     row = subst (λ (l : FieldValue). IsSumRow l values drained.cells) k_is drained.sums
 
     below : AllBelow (length ws) drained.cells
-    below = below_from_entries braid.field is.field (length ws) drained.cells row.row row.elements (λ p more. row.entries p ∙ sums.beyond p more)
+    below = below_by_entries braid.field is.field (length ws) drained.cells row.row row.elements (λ p more. row.entries p ∙ sums.beyond p more)
 
     entries : (p : ℕ) → p < length ws → entry braid.field drained.cells p ≡ value_at braid.field f (word_at ws p)
     entries p less = row.entries p ∙ sums.inside p less
@@ -114,11 +96,6 @@ pub no_rows_yet : (ws : List (List ℕ)) (rows : RowsValue) → rows ≡ record 
 no_rows_yet ws rows e = subst (AreRowsOf ws []) (sym e) (record { shape = record { closed = refl; shape = tt; below = tt }; forms = refl })
 
 -- ---- over no words
-
-none_among : (f : Combination) → AllAmong f [] → f ≡ []
-unfolding AllAmong
-none_among [] h = refl
-none_among (t ∷ f) h = absurd (contains_none t.word h.0)
 
 pub empty_are_rows : (braid : BraidValue) → IsBraid braid → (degree : ℕ) (g : List ℕ) → 1 ≤ degree → Contains (products braid degree) g → (a : ℕ) → IsLetter braid a → (spots : List Spot) → AllByRecursion (IsSpot (lower_words braid degree g)) spots →
     lower_basis braid degree g a ≡ [] → (rows : RowsValue) → rows ≡ record { rows = replicate (length spots) []; begun = [] } →
@@ -155,12 +132,9 @@ letter_more Q lists after a new size pushed before here b some most =
       | inl above ↦
           let last : b ≡ a + 1 = omega arith in
           let at : b - 1 ≡ length lists = omega arith in
-          subst (Q b) (sym (ap (λ i. get_or (lists ++ new ∷ []) i none) at ∙ get_or-append_seam lists new [] none)) (subst (λ n. Q n new) (sym last) here)
-      | inr below ↦ subst (Q b) (sym (get_or_append_left lists (new ∷ []) none (b - 1) (omega arith))) (before b some below)
+          subst (Q b) (sym (ap (λ i. get_or (lists ++ new ∷ []) i no_rows) at ∙ get_or-append_seam lists new [] no_rows)) (subst (λ n. Q n new) (sym last) here)
+      | inr below ↦ subst (Q b) (sym (get_or_append_left lists (new ∷ []) no_rows (b - 1) (omega arith))) (before b some below)
     ])
-  where
-    none : RowsValue
-    none = record { rows = []; begun = [] }
 
 -- the forms at the spots of the new words are those of the new words
 pub forms_of_spots : (braid : BraidValue) (degree : ℕ) (g : List ℕ) (spots : List Spot) → AreSpotsOf braid degree g spots → (a : ℕ) →
@@ -174,5 +148,5 @@ derivatives_by_letter braid degree g spots h lists n all size each = record {
   each = λ a la. subst (λ fs. AreRowsOf (lower_basis braid degree g a) fs (rows_by lists a)) (forms_of_spots braid degree g spots h a) (each a la.0 (let z : a ≤ braid.letters = la.1 in omega arith));
 }
 
-pub one_list_more : (lists after : List RowsValue) (a : ℕ) (new : RowsValue) → length lists ≡ a → after ≡ lists ++ new ∷ [] → length after ≡ a + 1
-one_list_more lists after a new size pushed = ap length pushed ∙ length-append lists (new ∷ []) ∙ ap (λ n. n + 1) size
+pub one_longer : {X : Type 0} (xs after : List X) (a : ℕ) (x : X) → length xs ≡ a → after ≡ xs ++ x ∷ [] → length after ≡ a + 1
+one_longer xs after a x size pushed = ap length pushed ∙ length-append xs (x ∷ []) ∙ ap (λ n. n + 1) size

@@ -7,7 +7,7 @@ use Rattle.std.proofs.lemmas.List.{get_or-map}
 use Rattle.nichols_field.specs.Field.{FieldValue, IsElement, IsField, plus}
 use Rattle.nichols_field.proofs.FieldAlgebra.{chosen_is_element, zero_plus}
 use Rattle.nichols_field.proofs.FieldLaws.{one_is_element, plus_comm, plus_zero}
-use Rattle.nichols_tensor.specs.Combination.{Combination, extended, same_letters, scaled, single, value_at}
+use Rattle.nichols_tensor.specs.Combination.{Combination, linear_map, same_letters, scalar_multiple, single, value_at}
 use Rattle.nichols_tensor.specs.Positions.{word_at}
 use Rattle.nichols_tensor.specs.WordOrder.{IsRising}
 use Rattle.nichols_tensor.proofs.InOrder.{value_at-in_order}
@@ -34,11 +34,11 @@ use Rattle.nichols_block.specs.Rows.{AreSums, summed_forms}
 use Rattle.nichols_block.proofs.LowerBelow.{lower_below}
 
 -- the images of the words of cells are the forms at their columns
-summed_is_extended : (k : FieldValue) (ws : List (List ℕ)) (image : List ℕ → Combination) (cells : List Cell) → AllBelow (length ws) cells → summed_forms k (map image ws) cells ≡ extended k image (combination_at ws cells)
+summed_is_extended : (k : FieldValue) (ws : List (List ℕ)) (image : List ℕ → Combination) (cells : List Cell) → AllBelow (length ws) cells → summed_forms k (map image ws) cells ≡ linear_map k image (combination_at ws cells)
 unfolding summed_forms
 summed_is_extended k ws image [] below = refl
 summed_is_extended k ws image (c ∷ cells) below =
-    ap₂ (λ f g. scaled k c.coefficient f ++ g) (get_or-map image ws c.column [] [] below.0) (summed_is_extended k ws image cells below.1)
+    ap₂ (λ f g. scalar_multiple k c.coefficient f ++ g) (get_or-map image ws c.column [] [] below.0) (summed_is_extended k ws image cells below.1)
 
 -- the forms of the words of a lower block with a letter behind stand in the relations
 forms_listed : (braid : BraidValue) → IsBraid braid → (m : ℕ) (g : List ℕ) (c : ℕ) → IsLetter braid c → right_forms braid m g c ≡ map (λ v. form_in (relations is_killed braid m) (v ++ c ∷ [])) (lower_basis braid m g c)
@@ -57,19 +57,19 @@ followed_sums braid is m g a b la lb f cells are =
     let image : List ℕ → Combination = λ v. form_in (relations is_killed braid m) (v ++ c ∷ []) in
     let there : lower_basis braid m (product_before braid a g) c ≡ lower_basis braid m (product_before braid b g) a = lower_below braid is m g a b la lb in
     ap (λ fs. summed_forms k fs cells) (forms_listed braid is m (product_before braid a g) c (is.rack.closed a b la lb) ∙ ap (map image) there)
-    ∙ summed_is_extended k (lower_basis braid m (product_before braid b g) a) image cells are.below ∙ ap (extended k image) are.form
+    ∙ summed_is_extended k (lower_basis braid m (product_before braid b g) a) image cells are.below ∙ ap (linear_map k image) are.form
 
 -- the value of a derivative at a word: u, where a is b, and what is followed by `a ▷ b`
 value_of_derivative : (braid : BraidValue) → IsBraid braid → (m : ℕ) (u : List ℕ) (a b : ℕ) → Contains (basis is_killed braid m) u → IsLetter braid a → IsLetter braid b → (w : List ℕ) →
     value_at braid.field (derived_form is_killed braid (suc m) (u ++ b ∷ []) a) w
     ≡ plus braid.field (value_at braid.field (if nat_eq a b then single u else []) w)
-    (value_at braid.field (scaled braid.field (scalar braid a b) (followed_form braid.field (relations is_killed braid m) (derived_form is_killed braid m u a) (act braid a b))) w)
+    (value_at braid.field (scalar_multiple braid.field (scalar braid a b) (followed_form braid.field (relations is_killed braid m) (derived_form is_killed braid m u a) (act braid a b))) w)
 unfolding derived_from
 value_of_derivative braid is m u a b i la lb w =
     let k : FieldValue = braid.field in
     ap (λ f. value_at k f w) (derivatives_of_candidates is_killed braid is (killed_is_ideal_from_right braid is) m u a b i la lb)
     ∙ value_at-in_order k is.field (derived_from braid (relations is_killed braid m) u (derived_form is_killed braid m u a) a b) w
-    ∙ value_at-append k is.field (if nat_eq a b then single u else []) (scaled k (scalar braid a b) (followed_form k (relations is_killed braid m) (derived_form is_killed braid m u a) (act braid a b))) w
+    ∙ value_at-append k is.field (if nat_eq a b then single u else []) (scalar_multiple k (scalar braid a b) (followed_form k (relations is_killed braid m) (derived_form is_killed braid m u a) (act braid a b))) w
 
 -- ---- where u isn't added
 
@@ -82,11 +82,11 @@ others_have_none k is u w a b other = at (nat_eq a b) refl
 
 -- what the sums of right rows are, where `∂_a u` has these cells
 abbrev pub right_sums : BraidValue → ℕ → List ℕ → ℕ → ℕ → List Cell → Combination
-right_sums braid m g a b cells = scaled braid.field (scalar braid a b) (summed_forms braid.field (right_forms braid m (product_before braid a g) (act braid a b)) cells)
+right_sums braid m g a b cells = scalar_multiple braid.field (scalar braid a b) (summed_forms braid.field (right_forms braid m (product_before braid a g) (act braid a b)) cells)
 
 right_sums_are : (braid : BraidValue) → IsBraid braid → (m : ℕ) (g : List ℕ) (a b : ℕ) → IsLetter braid a → IsLetter braid b → (f : Combination) (cells : List Cell) → AreCellsOf (lower_basis braid m (product_before braid b g) a) f cells → (w : List ℕ) →
-    value_at braid.field (right_sums braid m g a b cells) w ≡ value_at braid.field (scaled braid.field (scalar braid a b) (followed_form braid.field (relations is_killed braid m) f (act braid a b))) w
-right_sums_are braid is m g a b la lb f cells are w = ap (λ h. value_at braid.field (scaled braid.field (scalar braid a b) h) w) (followed_sums braid is m g a b la lb f cells are)
+    value_at braid.field (right_sums braid m g a b cells) w ≡ value_at braid.field (scalar_multiple braid.field (scalar braid a b) (followed_form braid.field (relations is_killed braid m) f (act braid a b))) w
+right_sums_are braid is m g a b la lb f cells are w = ap (λ h. value_at braid.field (scalar_multiple braid.field (scalar braid a b) h) w) (followed_sums braid is m g a b la lb f cells are)
 
 pub sums_of_others : (braid : BraidValue) → IsBraid braid → (m : ℕ) (g u : List ℕ) (a b : ℕ) → Contains (basis is_killed braid m) u → IsLetter braid a → IsLetter braid b → (cells : List Cell) → AreCellsOf (lower_basis braid m (product_before braid b g) a) (derived_form is_killed braid m u a) cells →
     (ws : List (List ℕ)) (values : List ℕ) → AreSums braid.field ws values (right_sums braid m g a b cells) → a ≢ b → AreSums braid.field ws values (derived_form is_killed braid (suc m) (u ++ b ∷ []) a)
@@ -95,7 +95,7 @@ sums_of_others braid is m g u a b i la lb cells are ws values sums other =
     record {
       inside = λ place less.
           let w : List ℕ = word_at ws place in
-          let rest : Combination = scaled k (scalar braid a b) (followed_form k (relations is_killed braid m) (derived_form is_killed braid m u a) (act braid a b)) in
+          let rest : Combination = scalar_multiple k (scalar braid a b) (followed_form k (relations is_killed braid m) (derived_form is_killed braid m u a) (act braid a b)) in
           sums.inside place less ∙ right_sums_are braid is m g a b la lb (derived_form is_killed braid m u a) cells are w
           ∙ sym (value_of_derivative braid is m u a b i la lb w ∙ ap (λ n. plus k n (value_at k rest w)) (others_have_none k is.field u w a b other) ∙ zero_plus k (value_at k rest w) (value_is_element k is.field rest w));
       beyond = sums.beyond;
@@ -120,7 +120,7 @@ sums_of_own braid is m g u a b i la lb cells are ws values after place rising wi
     k = braid.field
 
     rest : Combination
-    rest = scaled k (scalar braid a b) (followed_form k (relations is_killed braid m) (derived_form is_killed braid m u a) (act braid a b))
+    rest = scalar_multiple k (scalar braid a b) (followed_form k (relations is_killed braid m) (derived_form is_killed braid m u a) (act braid a b))
 
     -- what is added at each place
     added : (p : ℕ) → p < length ws → sum_at k after p ≡ plus k (sum_at k values p) (if place == p then 1 else 0)

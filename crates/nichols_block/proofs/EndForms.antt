@@ -3,10 +3,9 @@ use Rattle.std.proofs.Common.{◌≡◌, ℕ, zero, suc, ◌-◌, ◌<◌, ◌�
 use Rattle.std.specs.Prelude.{slice_index}
 use Rattle.std.specs.List.{Contains}
 use Rattle.std.proofs.lemmas.List.{length-take-le}
-use Rattle.std.proofs.Math.Seq.{take-append_seam}
+use Rattle.std.proofs.Math.Seq.{take-append_seam, get_or-append_seam}
 use Rattle.nichols_tensor.specs.Combination.{AllAmong, Combination, single}
 use Rattle.nichols_tensor.specs.Positions.{word_at}
-use Rattle.nichols_tensor.proofs.Entries.{contains_none}
 use Rattle.nichols_tensor.proofs.Over.{letter_over, word_over_front}
 use Rattle.nichols_tensor.proofs.Pushed.{pushed_length}
 use Rattle.nichols_braid.specs.declared.TheConstants.{MOST_DEGREES}
@@ -24,13 +23,13 @@ use Rattle.nichols_value.specs.Kept.{AreCellsOf}
 use Rattle.nichols_value.specs.Rule.{IsRuleOf, PlainRule, below_in, left_in, right_in, rule_of}
 use Rattle.nichols_value.proofs.Blocks.{lower_basis_is}
 use Rattle.nichols_value.proofs.LeftBlocks.{left_lower_is_lower}
-use Rattle.nichols_value.proofs.Readings.{basis_is, below_count, below_is, key_is, lean_of_whole, left_form, left_size, right_form}
+use Rattle.nichols_value.proofs.RuleEntries.{basis_is, below_count, below_is, key_is, lean_of_whole, left_form, left_size, right_form}
+use Rattle.nichols_value.proofs.FormCells.{none_among}
 use Rattle.nichols_block.specs.Lower.{IsUpperBlock}
 use Rattle.nichols_block.specs.Pass.{IsOfBlock}
 use Rattle.nichols_block.specs.Words.{but_last}
 use Rattle.nichols_block.proofs.ListedWords.{IsListedWord, but_last-push}
 use Rattle.nichols_block.proofs.ReadWords.{HasEnds, IsReadLeft, IsReadRight, has_ends, read_left, read_right}
-use Rattle.nichols_block.proofs.Sides.{entry_at_seam}
 
 -- ---- a word of two letters or more
 
@@ -38,7 +37,7 @@ last_of : (a : ℕ) (v : List ℕ) (b : ℕ) → slice_index (a ∷ v ++ b ∷ [
 last_of a v b =
     let size : length (v ++ b ∷ []) ≡ suc (length v) = pushed_length v b in
     let e : length (a ∷ v ++ b ∷ []) - 1 ≡ length (a ∷ v) = omega (arith, size) in
-    ap (slice_index (a ∷ v ++ b ∷ [])) e ∙ entry_at_seam (a ∷ v) b [] 0
+    ap (slice_index (a ∷ v ++ b ∷ [])) e ∙ get_or-append_seam (a ∷ v) b [] 0
 
 inner_of : (a : ℕ) (v : List ℕ) (b : ℕ) → take (length (a ∷ v ++ b ∷ []) - 2) (v ++ b ∷ []) ≡ v
 inner_of a v b =
@@ -81,11 +80,6 @@ long_by braid is zero some v size other = absurd (omega arith)
 long_by braid is (suc zero) some [] size other = absurd (let c : true ≡ false = sym (empty_word_is_least braid is.field) ∙ other in cc)
 long_by braid is (suc zero) some (x ∷ v) size other = absurd (omega arith)
 long_by braid is (suc (suc n)) some v size other = record { n = n; is = refl }
-
-none_among : (f : Combination) → AllAmong f [] → f ≡ []
-unfolding AllAmong
-none_among [] h = refl
-none_among (t ∷ f) h = absurd (contains_none t.word h.0)
 
 one_less : (n : ℕ) → suc n ≡ suc (suc n) - 1
 one_less n = omega arith

@@ -1,7 +1,8 @@
 -- The rule of degree 0.
 use Rattle.std.proofs.Common.{◌≡◌, ℕ, zero, suc, ◌+◌, cond, List, [], ◌∷◌, ◌++◌, length, map, filter, replicate, refl, sym, ◌∙◌, ap, ap₂, subst, arith, Some}
-use Rattle.std.proofs.lemmas.List.{map-append, replicate-append-replicate}
+use Rattle.std.proofs.lemmas.List.{map-append, replicate_more, length-replicate}
 use Rattle.std.specs.List.{AllByRecursion}
+use Rattle.std.proofs.lemmas.List.Elements.{All-replicate, recursion_from_All}
 use Rattle.nichols_tensor.specs.Combination.{Combination, same_letters}
 use Rattle.nichols_tensor.specs.Relation.{PlainRelation}
 use Rattle.nichols_tensor.specs.Words.{up_to}
@@ -20,10 +21,8 @@ use Rattle.nichols_value.specs.declared.spot.Spot.{Spot}
 use Rattle.nichols_value.specs.Block.{block_basis, block_relations, lower_basis, left_lower_basis}
 use Rattle.nichols_value.specs.Rule.{lean_rule_of, upper_of, rule_of, right_forms, left_forms, block_derivs}
 use Rattle.nichols_value.specs.Kept.{AreFormRows, AreFormRowsOfEach, HaveRowEach, AllShort, IsShaped, IsSpot, IsUpperShaped, forms_over, forms_over_each, rule_by, upper_by}
-
--- so many equal entries, and one more
-pub replicate_more : {X : Type 0} (n : ℕ) (x : X) → replicate n x ++ x ∷ [] ≡ replicate (n + 1) x
-replicate_more n x = replicate-append-replicate n 1 x
+use Rattle.nichols_value.proofs.Blocks.{no_lower_basis}
+use Rattle.nichols_value.proofs.KeptRows.{no_rows}
 
 -- a constant, once for each letter
 constant : {X : Type 0} (f : ℕ → X) (x : X) → ((a : ℕ) → f a ≡ x) → (n : ℕ) → map f (up_to n) ≡ replicate n x
@@ -31,26 +30,15 @@ constant f x h zero = refl
 constant f x h (suc n) =
     map-append f (up_to n) (suc n ∷ []) ∙ ap₂ (λ xs y. xs ++ y ∷ []) (constant f x h n) (h (suc n)) ∙ replicate_more n x ∙ ap (λ k. replicate k x) (let e : n + 1 ≡ suc n = omega arith in e)
 
-all_alike : {X : Type 0} (P : X → Type 0) (x : X) → P x → (n : ℕ) → AllByRecursion P (replicate n x)
-all_alike P x h zero = tt
-all_alike P x h (suc n) = (h, all_alike P x h n)
-
 map_alike : {X Y : Type 0} (f : X → Y) (x : X) (n : ℕ) → map f (replicate n x) ≡ replicate n (f x)
 map_alike f x zero = refl
 map_alike f x (suc n) = ap (λ ys. f x ∷ ys) (map_alike f x n)
-
-length_alike : {X : Type 0} (x : X) (n : ℕ) → length (replicate n x) ≡ n
-length_alike x zero = refl
-length_alike x (suc n) = ap suc (length_alike x n)
-
-abbrev none : RowsValue
-none = record { rows = []; begun = [] }
 
 abbrev one : RowsValue
 one = record { rows = [] ∷ []; begun = [] }
 
 abbrev none_of : ℕ → List RowsValue
-none_of n = replicate n none
+none_of n = replicate n no_rows
 
 -- ---- its parts
 
@@ -63,10 +51,6 @@ first_basis braid is =
 first_relations : (braid : BraidValue) → IsBraid braid → (g : List ℕ) → block_relations braid 0 g ≡ []
 unfolding block_relations
 first_relations braid is g = ap (λ (rs : List PlainRelation). filter (λ (r : PlainRelation). has_product braid g r.candidate) rs) (relations_first braid is.field)
-
-first_below : (braid : BraidValue) (g : List ℕ) (b : ℕ) → lower_basis braid 0 g b ≡ []
-unfolding lower_basis
-first_below braid g b = refl
 
 first_right : (braid : BraidValue) (g : List ℕ) (b : ℕ) → right_forms braid 0 g b ≡ []
 unfolding right_forms lower_basis
@@ -97,34 +81,34 @@ row_each : (n : ℕ) → HaveRowEach (no_words_of n) (none_of n)
 row_each zero = tt
 row_each (suc n) = (refl, row_each n)
 
-no_rows_shape : (w : ℕ) → AreFormRows w none
+no_rows_shape : (w : ℕ) → AreFormRows w no_rows
 no_rows_shape w = record { closed = refl; shape = tt; below = tt }
 
 -- ---- together
 
 pub lowest_shape : (n : ℕ) (key : BlockKey) (basis : List (List ℕ)) (below : List (List (List ℕ))) (right : List RowsValue) (spots : List Spot) → key.product ≡ up_to n → basis ≡ [] ∷ [] → below ≡ replicate n [] →
-    right ≡ replicate n none → spots ≡ [] → IsShaped key basis below right spots
+    right ≡ replicate n no_rows → spots ≡ [] → IsShaped key basis below right spots
 lowest_shape n key basis below right spots product b l r s = record {
-  letters = ap length l ∙ length_alike [] n ∙ sym (up_to_length n) ∙ ap length (sym product);
+  letters = ap length l ∙ length-replicate n [] ∙ sym (up_to_length n) ∙ ap length (sym product);
   rising = subst IsRising (sym b) (tt, tt);
-  lists_rise = subst (AllByRecursion IsRising) (sym l) (all_alike IsRising [] tt n);
-  short = subst (AllByRecursion AllShort) (sym l) (all_alike AllShort [] tt n);
-  forms = subst (AllByRecursion (AreFormRows (length basis))) (sym r) (all_alike (AreFormRows (length basis)) none (no_rows_shape (length basis)) n);
+  lists_rise = subst (AllByRecursion IsRising) (sym l) (recursion_from_All IsRising (replicate n []) (All-replicate IsRising n [] tt));
+  short = subst (AllByRecursion AllShort) (sym l) (recursion_from_All AllShort (replicate n []) (All-replicate AllShort n [] tt));
+  forms = subst (AllByRecursion (AreFormRows (length basis))) (sym r) (recursion_from_All (AreFormRows (length basis)) (replicate n no_rows) (All-replicate (AreFormRows (length basis)) n no_rows (no_rows_shape (length basis))));
   rows = subst (λ ls. HaveRowEach ls right) (sym l) (subst (λ rs. HaveRowEach (no_words_of n) rs) (sym r) (row_each n));
   inside = subst (λ (ss : List Spot). AllByRecursion (IsSpot below) ss) (sym s) tt;
 }
 
 pub lowest_upper : (n : ℕ) (basis : List (List ℕ)) (below : List (List (List ℕ))) (derivs left : List RowsValue) → basis ≡ [] ∷ [] → below ≡ replicate n [] →
-    derivs ≡ replicate n one → left ≡ replicate n none → IsUpperShaped basis below derivs left
+    derivs ≡ replicate n one → left ≡ replicate n no_rows → IsUpperShaped basis below derivs left
 lowest_upper n basis below derivs left b l d f = record {
   derivs_forms = subst (λ ls. AreFormRowsOfEach ls derivs) (sym l) (subst (λ ds. AreFormRowsOfEach (no_words_of n) ds) (sym d) (each_shape n));
-  derivs_rows = subst (AllByRecursion (λ (r : RowsValue). length r.rows ≡ length basis)) (sym d) (all_alike (λ (r : RowsValue). length r.rows ≡ length basis) one (sym (ap length b)) n);
-  left_forms = subst (AllByRecursion (AreFormRows (length basis))) (sym f) (all_alike (AreFormRows (length basis)) none (no_rows_shape (length basis)) n);
-  letters = ap length f ∙ length_alike none n ∙ sym (length_alike [] n) ∙ ap length (sym l);
+  derivs_rows = subst (AllByRecursion (λ (r : RowsValue). length r.rows ≡ length basis)) (sym d) (recursion_from_All (λ (r : RowsValue). length r.rows ≡ length basis) (replicate n one) (All-replicate (λ (r : RowsValue). length r.rows ≡ length basis) n one (sym (ap length b))));
+  left_forms = subst (AllByRecursion (AreFormRows (length basis))) (sym f) (recursion_from_All (AreFormRows (length basis)) (replicate n no_rows) (All-replicate (AreFormRows (length basis)) n no_rows (no_rows_shape (length basis))));
+  letters = ap length f ∙ length-replicate n no_rows ∙ sym (length-replicate n []) ∙ ap length (sym l);
 }
 
 pub lowest_is_rule : (braid : BraidValue) → IsBraid braid → (n : ℕ) (key : BlockKey) (basis : List (List ℕ)) (below : List (List (List ℕ))) (right : List RowsValue) (spots : List Spot) (derivs left : List RowsValue) → n ≡ braid.letters →
-    key ≡ record { degree = 0; product = up_to n } → basis ≡ [] ∷ [] → below ≡ replicate n [] → right ≡ replicate n none → spots ≡ [] → derivs ≡ replicate n one → left ≡ replicate n none →
+    key ≡ record { degree = 0; product = up_to n } → basis ≡ [] ∷ [] → below ≡ replicate n [] → right ≡ replicate n no_rows → spots ≡ [] → derivs ≡ replicate n one → left ≡ replicate n no_rows →
     rule_by key basis below right spots (Some (upper_by basis below derivs left)) ≡ rule_of braid 0 (up_to braid.letters)
 unfolding rule_of lean_rule_of upper_of
 lowest_is_rule braid is n key basis below right spots derivs left e k b l r s d f =
@@ -136,10 +120,10 @@ lowest_is_rule braid is n key basis below right spots derivs left e k b l r s d 
     ∙ ap (λ ds. rule_by own first lists rows [] (Some (upper_by first lists ds left))) (d ∙ ap (λ i. replicate i one) e)
     ∙ ap (λ fs. rule_by own first lists rows [] (Some (upper_by first lists (replicate braid.letters one) fs))) (f ∙ ap none_of e)
     ∙ same (block_basis braid 0 g) (block_relations braid 0 g) (map (lower_basis braid 0 g) (up_to braid.letters)) (map (right_forms braid 0 g) (up_to braid.letters)) (map (block_derivs braid 0 g) (up_to braid.letters)) (map (left_forms braid 0 g) (up_to braid.letters))
-    (sym (first_basis braid is)) (sym (first_relations braid is g)) (sym (constant (lower_basis braid 0 g) [] (first_below braid g) braid.letters))
-    (map_alike (forms_over first) none braid.letters ∙ sym (constant (right_forms braid 0 g) [] (first_right braid g) braid.letters))
+    (sym (first_basis braid is)) (sym (first_relations braid is g)) (sym (constant (lower_basis braid 0 g) [] (no_lower_basis braid g) braid.letters))
+    (map_alike (forms_over first) no_rows braid.letters ∙ sym (constant (right_forms braid 0 g) [] (first_right braid g) braid.letters))
     (each_empty braid.letters ∙ sym (constant (block_derivs braid 0 g) ([] ∷ []) (first_derivs braid is) braid.letters))
-    (map_alike (forms_over first) none braid.letters ∙ sym (constant (left_forms braid 0 g) [] (first_left braid g) braid.letters))
+    (map_alike (forms_over first) no_rows braid.letters ∙ sym (constant (left_forms braid 0 g) [] (first_left braid g) braid.letters))
   where
     g : List ℕ
     g = up_to braid.letters

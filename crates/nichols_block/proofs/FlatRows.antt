@@ -3,8 +3,9 @@ use Rattle.std.proofs.Common.{◌≡◌, ℕ, zero, suc, ◌+◌, ◌-◌, ◌^�
 use Rattle.std.specs.Prelude.{slice_index}
 use Rattle.std.specs.List.{AllByRecursion}
 use Rattle.std.proofs.lemmas.Bool.{cases_lt}
-use Rattle.std.proofs.lemmas.List.{get_or_append_left, get_or_read, length-append, length-map}
+use Rattle.std.proofs.lemmas.List.{get_or_append_left, get_or_read, length-map}
 use Rattle.std.proofs.Math.Seq.{get_or-append_seam}
+use Rattle.std.proofs.lemmas.List.Elements.{All-from_recursion}
 use Rattle.nichols_braid.specs.Braid.{BraidValue, IsBraid}
 use Rattle.nichols_braid.specs.Forms.{derived_form}
 use Rattle.nichols_braid.specs.Kernel.{is_killed}
@@ -14,8 +15,7 @@ use Rattle.nichols_echelon.specs.Split.{IsSplit}
 use Rattle.nichols_echelon.specs.declared.rows.Place.{Place}
 use Rattle.nichols_rows.specs.CombinationAt.{combination_at}
 use Rattle.nichols_value.specs.Block.{lower_basis}
-use Rattle.nichols_value.proofs.KeptRows.{all_at_place}
-use Rattle.nichols_block.specs.NewRows.{AreNewRows, AreOffsets, columns_to, joined, shifted}
+use Rattle.nichols_block.specs.NewRows.{AreNewRows, AreOffsets, columns_to, joined_row, cells_behind}
 use Rattle.nichols_block.specs.Places.{ArePlacesOf}
 use Rattle.nichols_block.specs.Rows.{AreNewDerivatives, AreRowsOf, rows_by}
 use Rattle.nichols_block.specs.Words.{block_new_words}
@@ -56,9 +56,6 @@ offset_more f xs after a x size pushed here before b less =
           ap (slice_index (xs ++ x ∷ [])) last ∙ get_or-append_seam xs x [] 0 ∙ here ∙ ap f at
     ]
 
-pub number_more : (xs after : List ℕ) (a x : ℕ) → length xs ≡ a → after ≡ xs ++ x ∷ [] → length after ≡ a + 1
-number_more xs after a x size pushed = ap length pushed ∙ length-append xs (x ∷ []) ∙ ap (λ n. n + 1) size
-
 -- ---- the rows by one letter
 
 -- the rows by a letter: one for each new word, and their columns are places of words
@@ -87,16 +84,16 @@ pub row_fits : (braid : BraidValue) (m : ℕ) (g : List ℕ) (offsets : List ℕ
     cells ≡ get_or own.rows k [] → IsByLetter braid m g lists a own → AllBelow (2 ^ 32 - slice_index offsets a) cells
 row_fits braid m g offsets o lists a k own cells less within at h =
     below_wider (length (lower_basis braid m g (a + 1))) (2 ^ 32 - slice_index offsets a) (omega (arith, o.each a less, o.short, columns_within braid m g a braid.letters less)) cells
-    (subst (AllBelow (length (lower_basis braid m g (a + 1)))) (sym at) (all_at_place (AllBelow (length (lower_basis braid m g (a + 1)))) own.rows k [] h.below within))
+    (subst (AllBelow (length (lower_basis braid m g (a + 1)))) (sym at) (All-from_recursion (AllBelow (length (lower_basis braid m g (a + 1)))) own.rows h.below k [] within))
 
 -- ---- a row, letter by letter
 
 pub joined_next : (braid : BraidValue) (m : ℕ) (g : List ℕ) (offsets : List ℕ) → AreOffsets braid m g offsets → (lists : List RowsValue) (a k : ℕ) (own : RowsValue) (cells before after : List Cell) → a < braid.letters → cells ≡ get_or own.rows k [] →
-    IsByLetter braid m g lists a own → before ≡ joined braid m g lists k a → after ≡ before ++ shifted (slice_index offsets a) cells → after ≡ joined braid m g lists k (a + 1)
+    IsByLetter braid m g lists a own → before ≡ joined_row braid m g lists k a → after ≡ before ++ cells_behind (slice_index offsets a) cells → after ≡ joined_row braid m g lists k (a + 1)
 joined_next braid m g offsets o lists a k own cells before after less at h begun pushed =
-    pushed ∙ ap₂ (λ xs n. xs ++ shifted n cells) begun (o.each a less)
-    ∙ ap (λ ys. joined braid m g lists k a ++ shifted (columns_to braid m g a) ys) (at ∙ ap (λ (r : RowsValue). get_or r.rows k []) h.there)
-    ∙ subst (λ b. joined braid m g lists k a ++ shifted (columns_to braid m g a) (get_or (rows_by lists b).rows k []) ≡ joined braid m g lists k b) (sym (add-one a)) (sym (joined_more braid m g lists k a))
+    pushed ∙ ap₂ (λ xs n. xs ++ cells_behind n cells) begun (o.each a less)
+    ∙ ap (λ ys. joined_row braid m g lists k a ++ cells_behind (columns_to braid m g a) ys) (at ∙ ap (λ (r : RowsValue). get_or r.rows k []) h.there)
+    ∙ subst (λ b. joined_row braid m g lists k a ++ cells_behind (columns_to braid m g a) (get_or (rows_by lists b).rows k []) ≡ joined_row braid m g lists k b) (sym (add-one a)) (sym (joined_more braid m g lists k a))
 
 -- ---- the split
 

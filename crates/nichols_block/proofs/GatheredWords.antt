@@ -1,19 +1,20 @@
 -- Words that were listed in order, each taken once, with what is known of it.
-use Rattle.std.proofs.Common.{◌≡◌, ℕ, zero, suc, ◌+◌, ◌≤◌, Bool, true, false, cond, List, [], ◌∷◌, ◌++◌, map, length, get_or, take, drop, refl, sym, ◌∙◌, ap, ap₂, subst, arith, append_assoc, ◌⊎◌, inl, inr}
-use Rattle.std.specs.Prelude.{◌||◌, ◌&&◌}
+use Rattle.std.proofs.Common.{◌≡◌, ℕ, zero, suc, ◌≤◌, Bool, true, false, cond, List, [], ◌∷◌, ◌++◌, map, length, take, drop, refl, sym, ◌∙◌, ap, ap₂, subst, arith, append_assoc, ◌⊎◌, inl, inr}
+use Rattle.std.specs.Prelude.{◌&&◌}
 use Rattle.std.specs.List.{flat_map, filter, AllByRecursion, Contains}
 use Rattle.std.specs.List.Sorted.{IsPermutation, IsSortedByKey}
-use Rattle.std.specs.Ordering.{is_lt, is_eq}
+use Rattle.std.specs.Ordering.{is_eq}
 use Rattle.std.specs.declared.cmp.Ordering.{Ordering}
 use Rattle.std.specs.declared.cmp.Ordering.TheVariants.{Less, Equal, Greater}
 use Rattle.std.proofs.lemmas.Grind.{flat_map-append}
 use Rattle.std.proofs.lemmas.List.{append-nil, take_all}
 use Rattle.std.proofs.lemmas.List.Sorted.{Contains-permutation, IsPermutation-sym}
+use Rattle.std.proofs.lemmas.Bool.{or_cases, or_left, or_right}
 use Rattle.nichols_tensor.specs.Words.{up_to}
-use Rattle.nichols_tensor.specs.WordOrder.{word_cmp, IsBelowFirst, IsRising}
-use Rattle.nichols_tensor.proofs.Entries.{contains_none, contains_first, contains_later, contains_cases, in_left, in_right, in_either, in_map, from_map, in_flat_map, from_flat_map}
+use Rattle.nichols_tensor.specs.WordOrder.{word_cmp, IsRising}
+use Rattle.nichols_tensor.proofs.Entries.{contains_none, contains_first, contains_later, contains_cases, in_map, from_map, in_flat_map, from_flat_map}
 use Rattle.nichols_tensor.proofs.Letters.{in_up_to, from_up_to}
-use Rattle.nichols_tensor.proofs.Order.{same_word, less_back}
+use Rattle.nichols_tensor.proofs.Order.{same_word}
 use Rattle.nichols_tensor.proofs.Ordered.{before_all}
 use Rattle.nichols_tensor.proofs.Over.{all_at}
 use Rattle.nichols_tensor.proofs.Rising.{rising_unique}
@@ -24,8 +25,11 @@ use Rattle.nichols_braid.specs.Least.{is_least}
 use Rattle.nichols_value.specs.Block.{left_lower_basis, lower_basis}
 use Rattle.nichols_block.specs.declared.words.Listed.{Listed}
 use Rattle.nichols_block.specs.Words.{AreListed, but_last, left_entries, left_entry, listed_words, right_entries, right_entry, block_new_words}
-use Rattle.nichols_block.specs.Gathered.{are_one, gathered_all, gathered_from, together, word_in}
+use Rattle.nichols_block.specs.Gathered.{gathered_all, gathered_from, together, word_in}
 use Rattle.nichols_block.proofs.ListedWords.{IsListedWord, from_left_word, from_listed, from_right_word, in_listed, left_word, listed_words_rise, right_word, but_last-push, new_of_listed}
+use Rattle.std.proofs.lemmas.List.Elements.{Contains-append_left, Contains-append_right, Contains-append_cases}
+use Rattle.nichols_tensor.specs.Gathered.{are_one, gathered_by}
+use Rattle.nichols_tensor.proofs.Gathered.{gathered_rise}
 
 -- ---- one letter more
 
@@ -105,26 +109,15 @@ left_found braid m g w listed least =
 
 -- ---- entries taken together
 
-either : (a b : Bool) → (a || b) ≡ true → (a ≡ true) ⊎ (b ≡ true)
-either true b h = inl refl
-either false b h = inr h
-
-or_left : (a b : Bool) → a ≡ true → (a || b) ≡ true
-or_left a b h = ap (λ x. x || b) h
-
-or_right : (a b : Bool) → b ≡ true → (a || b) ≡ true
-or_right true b h = refl
-or_right false b h = h
-
 known_together : (braid : BraidValue) (m : ℕ) (g : List ℕ) (last l : Listed) → l.word ≡ last.word → IsKnown braid m g last → IsKnown braid m g l → IsKnown braid m g (together last l)
 known_together braid m g last l e h k = record {
   listed = h.listed;
-  right = λ r. elim (either last.right l.right r) [ inl t ↦ h.right t | inr t ↦ ap (λ w. is_least is_killed braid (but_last w)) (sym e) ∙ k.right t ];
-  left = λ r. elim (either last.left l.left r) [ inl t ↦ h.left t | inr t ↦ ap (λ w. is_least is_killed braid (drop 1 w)) (sym e) ∙ k.left t ];
+  right = λ r. elim (or_cases last.right l.right r) [ inl t ↦ h.right t | inr t ↦ ap (λ w. is_least is_killed braid (but_last w)) (sym e) ∙ k.right t ];
+  left = λ r. elim (or_cases last.left l.left r) [ inl t ↦ h.left t | inr t ↦ ap (λ w. is_least is_killed braid (drop 1 w)) (sym e) ∙ k.left t ];
 }
 
 known-gathered : (braid : BraidValue) (m : ℕ) (g : List ℕ) (last : Listed) (ls : List Listed) → IsKnown braid m g last → AllByRecursion (IsKnown braid m g) ls → AllByRecursion (IsKnown braid m g) (gathered_from last ls)
-unfolding gathered_from
+unfolding gathered_by
 known-gathered braid m g last [] h k = (h, tt)
 known-gathered braid m g last (l ∷ ls) h k =
     at (word_cmp l.word last.word) refl (λ e. known-gathered braid m g (together last l) ls (known_together braid m g last l e h k.0) k.1) (known-gathered braid m g l ls k.0 k.1)
@@ -154,7 +147,7 @@ holds_less : (ls : List Listed) (e d : Listed) → e.word ≡ d.word → (d.righ
 holds_less ls e d w r l h = record { entry = h.entry; there = h.there; word = h.word ∙ w; right = λ t. h.right (r t); left = λ t. h.left (l t) }
 
 last-held : (last : Listed) (ls : List Listed) → Holds (gathered_from last ls) last
-unfolding gathered_from
+unfolding gathered_by
 last-held last [] = holds_first [] last
 last-held last (l ∷ ls) = at (are_one l.word last.word) (last-held (together last l) ls)
   where
@@ -163,7 +156,7 @@ last-held last (l ∷ ls) = at (are_one l.word last.word) (last-held (together l
     at false h = holds_first (gathered_from l ls) last
 
 later-held : (last : Listed) (ls : List Listed) (e : Listed) → Contains ls e → Holds (gathered_from last ls) e
-unfolding gathered_from
+unfolding gathered_by
 later-held last [] e i = absurd (contains_none e i)
 later-held last (l ∷ ls) e i =
     elim (contains_cases l ls e i) [
@@ -181,53 +174,12 @@ later-held last (l ∷ ls) e i =
     at true both own = both
     at false both own = holds_later last (gathered_from l ls) e own
 
--- ---- they rise
-
-words_in : List Listed → List (List ℕ)
-words_in ls = map word_in ls
-
-below-gathered : (v : List ℕ) (last : Listed) (ls : List Listed) → word_cmp v last.word ≡ Less → IsBelowFirst v (map word_in (gathered_from last ls))
-unfolding gathered_from
-below-gathered v last [] h = h
-below-gathered v last (l ∷ ls) h = at (are_one l.word last.word) (below-gathered v (together last l) ls h)
-  where
-    at : (b : Bool) → IsBelowFirst v (map word_in (gathered_from (together last l) ls)) → IsBelowFirst v (map word_in (cond b (gathered_from (together last l) ls) (last ∷ gathered_from l ls)))
-    at true same = same
-    at false same = h
-
--- no word of the list stands before the one in front of it, nor the first before w
-abbrev NeverFalls : List ℕ → List Listed → Type 0
-NeverFalls w [] = Unit {0}
-NeverFalls w (l ∷ ls) = (is_lt (word_cmp l.word w) ≡ false) × NeverFalls l.word ls
-
-rising-gathered : (last : Listed) (ls : List Listed) → NeverFalls last.word ls → IsRising (map word_in (gathered_from last ls))
-unfolding gathered_from
-rising-gathered last [] s = (tt, tt)
-rising-gathered last (l ∷ ls) s =
-    at (word_cmp l.word last.word) refl s.0 (λ e. rising-gathered (together last l) ls (subst (λ v. NeverFalls v ls) e s.1)) (rising-gathered l ls s.1) (below-gathered last.word l ls)
-  where
-    at : (o : Ordering) → word_cmp l.word last.word ≡ o → is_lt o ≡ false → (l.word ≡ last.word → IsRising (map word_in (gathered_from (together last l) ls))) → IsRising (map word_in (gathered_from l ls)) →
-        (word_cmp last.word l.word ≡ Less → IsBelowFirst last.word (map word_in (gathered_from l ls))) → IsRising (map word_in (cond (is_eq o) (gathered_from (together last l) ls) (last ∷ gathered_from l ls)))
-    at Less e h same other below = cc
-    at Equal e h same other below = same (same_word l.word last.word e)
-    at Greater e h same other below = (below (less_back l.word last.word e), other)
-
-never_falls : (t : Listed) (f : List Listed) → IsSortedByKey word_in word_cmp (t ∷ f) → NeverFalls t.word f
-never_falls t [] s = tt
-never_falls t (u ∷ f) s = (s 0 t (omega arith) (omega arith), never_falls u f (λ i d low less. later i d (s (suc i) d (omega arith) (omega arith))))
-  where
-    later : (i : ℕ) (d : Listed) → is_lt (word_cmp (get_or (t ∷ u ∷ f) (suc i + 1) d).word (get_or (t ∷ u ∷ f) (suc i) d).word) ≡ false → is_lt (word_cmp (get_or (u ∷ f) (i + 1) d).word (get_or (u ∷ f) i d).word) ≡ false
-    later i d h = subst (λ n. is_lt (word_cmp (get_or (t ∷ u ∷ f) n d).word (get_or (u ∷ f) i d).word) ≡ false) more h
-      where
-        more : suc i + 1 ≡ suc (i + 1)
-        more = omega arith
-
 -- ---- all of a list
 
 all-rise : (ls : List Listed) → IsSortedByKey word_in word_cmp ls → IsRising (map word_in (gathered_all ls))
 unfolding gathered_all
 all-rise [] s = tt
-all-rise (l ∷ ls) s = rising-gathered l ls (never_falls l ls s)
+all-rise (l ∷ ls) s = gathered_rise word_in together (λ last x. refl) l ls s
 
 all-known : (braid : BraidValue) (m : ℕ) (g : List ℕ) (ls : List Listed) → AllByRecursion (IsKnown braid m g) ls → AllByRecursion (IsKnown braid m g) (gathered_all ls)
 unfolding gathered_all
@@ -269,7 +221,7 @@ known_of_all : (braid : BraidValue) → IsBraid braid → (m : ℕ) (g : List �
 known_of_all braid is m g size sorted same =
     all_of_entries (IsKnown braid (suc m) g) sorted
     (λ l i.
-    elim (in_either l (right_entries braid (suc m) g braid.letters) (left_entries braid (suc m) g braid.letters) (Contains-permutation sorted (all_entries braid (suc m) g) l same i)) [
+    elim (Contains-append_cases (right_entries braid (suc m) g braid.letters) (left_entries braid (suc m) g braid.letters) l (Contains-permutation sorted (all_entries braid (suc m) g) l same i)) [
       | inl j ↦ right_known braid is m g size l j
       | inr j ↦ left_known braid m g l j
     ])
@@ -278,14 +230,14 @@ right_held : (braid : BraidValue) → IsBraid braid → (m : ℕ) (g : List ℕ)
     Found (gathered_all sorted) w (λ z. z.right)
 right_held braid is m g sorted same w listed least =
     let (l, i, e, r) = right_found braid is m g w listed least in
-    let h : Holds (gathered_all sorted) l = all-held sorted l (Contains-permutation (all_entries braid (suc m) g) sorted l same (in_left l (right_entries braid (suc m) g braid.letters) (left_entries braid (suc m) g braid.letters) i)) in
+    let h : Holds (gathered_all sorted) l = all-held sorted l (Contains-permutation (all_entries braid (suc m) g) sorted l same (Contains-append_left (right_entries braid (suc m) g braid.letters) (left_entries braid (suc m) g braid.letters) l i)) in
     record { entry = h.entry; there = h.there; word = h.word ∙ e; known = h.right r }
 
 left_held : (braid : BraidValue) → IsBraid braid → (m : ℕ) (g : List ℕ) (sorted : List Listed) → IsPermutation (all_entries braid (suc m) g) sorted → (w : List ℕ) → IsListedWord braid (suc m) g w → is_least is_killed braid (drop 1 w) ≡ true →
     Found (gathered_all sorted) w (λ z. z.left)
 left_held braid is m g sorted same w listed least =
     let (l, i, e, r) = left_found braid m g w listed least in
-    let h : Holds (gathered_all sorted) l = all-held sorted l (Contains-permutation (all_entries braid (suc m) g) sorted l same (in_right l (right_entries braid (suc m) g braid.letters) (left_entries braid (suc m) g braid.letters) i)) in
+    let h : Holds (gathered_all sorted) l = all-held sorted l (Contains-permutation (all_entries braid (suc m) g) sorted l same (Contains-append_right (right_entries braid (suc m) g braid.letters) (left_entries braid (suc m) g braid.letters) l i)) in
     record { entry = h.entry; there = h.there; word = h.word ∙ e; known = h.left r }
 
 listed_are_at : (braid : BraidValue) → IsBraid braid → (m : ℕ) (g : List ℕ) → length g ≡ braid.letters → (sorted : List Listed) → IsPermutation (all_entries braid (suc m) g) sorted → IsSortedByKey word_in word_cmp sorted →
@@ -323,20 +275,20 @@ listed_are braid is (suc m) g some size sorted same rises = listed_are_at braid 
 
 -- the next entry has the same word
 pub gathering-same : (out : List Listed) (last l now : Listed) (f rest all : List Listed) → f ≡ l ∷ rest → are_one l.word last.word ≡ true → now ≡ together last l → out ++ gathered_from last f ≡ all → out ++ gathered_from now rest ≡ all
-unfolding gathered_from
+unfolding gathered_by
 gathering-same out last l now f rest all e one n g =
     ap (λ u. out ++ gathered_from u rest) n ∙ ap (λ b. out ++ cond b (gathered_from (together last l) rest) (last ∷ gathered_from l rest)) (sym one) ∙ ap (λ r. out ++ gathered_from last r) (sym e) ∙ g
 
 -- it has another word
 pub gathering-other : (out : List Listed) (last l : Listed) (put f rest all : List Listed) → f ≡ l ∷ rest → are_one l.word last.word ≡ false → put ≡ out ++ last ∷ [] → out ++ gathered_from last f ≡ all → put ++ gathered_from l rest ≡ all
-unfolding gathered_from
+unfolding gathered_by
 gathering-other out last l put f rest all e other p g =
     ap (λ o. o ++ gathered_from l rest) p ∙ append_assoc out (last ∷ []) (gathered_from l rest)
     ∙ ap (λ b. out ++ cond b (gathered_from (together last l) rest) (last ∷ gathered_from l rest)) (sym other) ∙ ap (λ r. out ++ gathered_from last r) (sym e) ∙ g
 
 -- none is left
 pub gathering-end : (out : List Listed) (last first : Listed) (put f rest sorted : List Listed) → f ≡ [] → put ≡ out ++ last ∷ [] → sorted ≡ first ∷ rest → out ++ gathered_from last f ≡ gathered_from first rest → put ≡ gathered_all sorted
-unfolding gathered_from gathered_all
+unfolding gathered_by gathered_all
 gathering-end out last first put f rest sorted e p s g = p ∙ ap (λ r. out ++ gathered_from last r) (sym e) ∙ g ∙ ap gathered_all (sym s)
 
 pub gathered_none : (out sorted : List Listed) → out ≡ [] → sorted ≡ [] → out ≡ gathered_all sorted

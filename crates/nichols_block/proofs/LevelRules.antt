@@ -13,15 +13,16 @@ use Rattle.nichols_braid.specs.declared.TheConstants.{MOST_DEGREES}
 use Rattle.nichols_braid.specs.Braid.{BraidValue}
 use Rattle.nichols_braid.specs.Kernel.{is_killed}
 use Rattle.nichols_braid.specs.Least.{basis, is_least}
-use Rattle.nichols_braid.specs.Product.{has_product, moved, product_of}
+use Rattle.nichols_braid.specs.Product.{has_product, product_of}
 use Rattle.nichols_braid.specs.Products.{products}
 use Rattle.nichols_braid.proofs.NextProducts.{products_first}
 use Rattle.nichols_braid.proofs.ProductListLaws.{products_are_of_words}
+use Rattle.nichols_braid.proofs.InlineProducts.{product_of_none}
 use Rattle.nichols_value.specs.declared.shared.Shared.{Shared}
 use Rattle.nichols_value.specs.declared.value.BlockValue.{BlockValue}
 use Rattle.nichols_value.specs.declared.value.BlockValue.TheVariants.{Rule, Over, Void, Starved}
 use Rattle.nichols_value.specs.Block.{block_basis}
-use Rattle.nichols_value.specs.Rule.{IsRuleOf, PlainRule, rule_of, lean_rule_of}
+use Rattle.nichols_value.specs.Rule.{IsRuleOf, rule_of, lean_rule_of}
 use Rattle.nichols_value.specs.Worth.{lean_value, worth}
 use Rattle.nichols_value.proofs.Blocks.{in_block_basis}
 use Rattle.nichols_block.specs.declared.levels.Degree.{Degree}
@@ -47,10 +48,6 @@ kept_whole braid last m g (Rule r) e h = ap Rule (h.1 e)
 kept_whole braid last m g (Over n) e h = absurd h
 kept_whole braid last m g Void e h = absurd h
 kept_whole braid last m g Starved e h = absurd h
-
--- in each degree it is the block's rule
-pub kept_rule : (braid : BraidValue) (last m : ℕ) (g : List ℕ) (value : BlockValue) (r : PlainRule) → value ≡ Rule r → IsKept braid last m g value → IsRuleOf braid m g r × (m ≡ last → r ≡ rule_of braid m g)
-kept_rule braid last m g value r e h = subst (IsKept braid last m g) e h
 
 pub rule_is_rule_of : (braid : BraidValue) (m : ℕ) (g : List ℕ) → IsRuleOf braid m g (rule_of braid m g)
 unfolding rule_of lean_rule_of
@@ -159,14 +156,6 @@ levels_let_go braid ds i d new are less at same kept =
 rules_are : (braid : BraidValue) (m : ℕ) (gs : List (List ℕ)) → products braid m ≡ gs → rules_of braid m ≡ map (rule_of braid m) gs
 unfolding rules_of
 rules_are braid m gs e = ap (map (rule_of braid m)) e
-
-product_of_none : (braid : BraidValue) → product_of braid [] ≡ up_to braid.letters
-unfolding product_of
-product_of_none braid = unmoved (up_to braid.letters)
-  where
-    unmoved : (js : List ℕ) → map (moved braid []) js ≡ js
-    unmoved [] = refl
-    unmoved (j ∷ js) = ap (λ ks. j ∷ ks) (unmoved js)
 
 pub level_degree : (levels : LevelsValue) (braid : BraidValue) (spare : ℕ) (ds : List Degree) (m : ℕ) (d : Degree) → record { braid = braid; last = length ds - 1; spare = spare } ≡ levels → AreLevels braid (length ds - 1) ds → m ≤ levels.last → d ≡ get_or ds m d →
     (d.products ≡ products levels.braid m) × AreKept levels.braid levels.last m (products levels.braid m) d.values.items

@@ -22,7 +22,6 @@ pub mod RelatedWords
 pub mod RowSums
 pub mod RuleParts
 pub mod RulesBelow
-pub mod Searching
 pub mod Sides
 pub mod SpotsBelow
 pub mod SpotsFound

@@ -1,15 +1,16 @@
 -- The listed words of a block, and the new ones among them.
-use Rattle.std.proofs.Common.{◌≡◌, ℕ, zero, suc, ◌-◌, ◌<◌, ◌≤◌, Bool, true, false, List, [], ◌∷◌, ◌++◌, map, length, take, drop, refl, sym, ◌∙◌, ap, subst, arith, ◌⊎◌, inl, inr}
-use Rattle.std.specs.Prelude.{◌&&◌, ◌||◌}
+use Rattle.std.proofs.Common.{◌≡◌, ℕ, zero, suc, ◌-◌, ◌<◌, ◌≤◌, Bool, true, List, [], ◌∷◌, ◌++◌, map, length, take, drop, refl, sym, ◌∙◌, ap, subst, arith, ◌⊎◌, inl, inr}
+use Rattle.std.specs.Prelude.{◌&&◌}
 use Rattle.std.specs.List.{filter, AllByRecursion, Contains}
 use Rattle.std.specs.Cmp.Derive.{both_true}
 use Rattle.std.specs.Cmp.Lexicographic.{same_text}
 use Rattle.std.proofs.Math.Seq.{take-append_seam}
+use Rattle.std.proofs.lemmas.Bool.{and_parts, or_cases, or_left, or_right}
 use Rattle.nichols_tensor.specs.declared.TheConstants.{WORD_LIMIT}
 use Rattle.nichols_tensor.specs.Combination.{same_letters}
 use Rattle.nichols_tensor.specs.Words.{IsWordOver, words}
 use Rattle.nichols_tensor.specs.WordOrder.{IsRising}
-use Rattle.nichols_tensor.proofs.AllWords.{in_words, from_words, words_rise, push_less}
+use Rattle.nichols_tensor.proofs.AllWords.{in_words, from_words, words_rise, push_less, prepend_less}
 use Rattle.nichols_tensor.proofs.Entries.{contains_none, in_map, from_map, in_filter, from_filter}
 use Rattle.nichols_tensor.proofs.Over.{word_over_front, word_over_back}
 use Rattle.nichols_tensor.proofs.Pushed.{pushed_length, pushed_over}
@@ -18,15 +19,15 @@ use Rattle.nichols_tensor.proofs.Tests.{all_of_entries}
 use Rattle.nichols_tensor.proofs.Values.{same_itself}
 use Rattle.nichols_braid.specs.Braid.{BraidValue, IsBraid, IsLetter}
 use Rattle.nichols_braid.specs.Kernel.{is_killed}
-use Rattle.nichols_braid.specs.Least.{is_least, basis}
+use Rattle.nichols_braid.specs.Least.{is_least}
 use Rattle.nichols_braid.specs.NewWords.{is_new, new_words}
 use Rattle.nichols_braid.specs.Product.{product_of, has_product}
 use Rattle.nichols_braid.proofs.Reduction.{in_basis, from_basis}
 use Rattle.nichols_braid.proofs.Spanning.{split_last}
-use Rattle.nichols_braid.proofs.Suffixes.{front_less}
-use Rattle.nichols_value.specs.Block.{block_basis, left_lower_basis, lower_basis}
+use Rattle.nichols_value.specs.Block.{left_lower_basis, lower_basis}
 use Rattle.nichols_value.proofs.Blocks.{has_product_is, product_is, in_lower_basis, from_lower_basis, lower_basis_rises}
 use Rattle.nichols_value.proofs.LeftBlocks.{in_left_lower_basis, from_left_lower_basis, left_lower_basis_rises}
+use Rattle.nichols_value.proofs.RuleEntries.{lower_word_is_short}
 use Rattle.nichols_block.specs.Words.{but_last, is_listed, is_left, is_right, listed_words, block_new_words}
 
 -- ---- words without a letter
@@ -79,15 +80,10 @@ has_first braid m (a ∷ w) size over = record { first = a; back = w; whole = re
 
 -- ---- words of lower blocks
 
-lower_word_size : (braid : BraidValue) (m : ℕ) (g : List ℕ) (b : ℕ) (u : List ℕ) → Contains (lower_basis braid m g b) u → length u < m
-unfolding lower_basis block_basis
-lower_word_size braid zero g b u i = absurd (contains_none u i)
-lower_word_size braid (suc m) g b u i = let (j, h) = from_filter (has_product braid _) u (basis is_killed braid m) i in let from : (length u ≡ m) × IsWordOver braid.letters u × (is_least is_killed braid u ≡ true) = from_basis is_killed braid m u j in omega (arith, from.0)
-
 pub lower_words_short : (braid : BraidValue) (m : ℕ) (g : List ℕ) (b : ℕ) (ws : List (List ℕ)) → m ≤ WORD_LIMIT → ws ≡ lower_basis braid m g b → AllByRecursion (λ w. length w < WORD_LIMIT) ws
 lower_words_short braid m g b ws most e =
     subst (AllByRecursion (λ w. length w < WORD_LIMIT)) (sym e)
-    (all_of_entries (λ w. length w < WORD_LIMIT) (lower_basis braid m g b) (λ u i. let less : length u < m = lower_word_size braid m g b u i in omega (arith, less, most)))
+    (all_of_entries (λ w. length w < WORD_LIMIT) (lower_basis braid m g b) (lower_word_is_short braid m g b most))
 
 left_word_size : (braid : BraidValue) (m : ℕ) (g : List ℕ) (a : ℕ) (v : List ℕ) → Contains (left_lower_basis braid m g a) v → length v < m
 unfolding left_lower_basis
@@ -100,21 +96,6 @@ left_words_short braid m g a ws most e =
     (all_of_entries (λ w. length w < WORD_LIMIT) (left_lower_basis braid m g a) (λ v i. let less : length v < m = left_word_size braid m g a v i in omega (arith, less, most)))
 
 -- ---- listed words
-
-either_true : (a b : Bool) → (a || b) ≡ true → (a ≡ true) ⊎ (b ≡ true)
-either_true true b h = inl refl
-either_true false b h = inr h
-
-from_left_test : (a b : Bool) → a ≡ true → (a || b) ≡ true
-from_left_test a b h = ap (λ x. x || b) h
-
-from_right_test : (a b : Bool) → b ≡ true → (a || b) ≡ true
-from_right_test true b h = refl
-from_right_test false b h = h
-
-both_hold : (a b : Bool) → (a && b) ≡ true → (a ≡ true) × (b ≡ true)
-both_hold true b h = (refl, h)
-both_hold false b h = cc
 
 pub listed_words_rise : (braid : BraidValue) (m : ℕ) (g : List ℕ) → IsRising (listed_words braid m g)
 unfolding listed_words
@@ -132,8 +113,8 @@ unfolding listed_words
 from_listed braid m g w i =
     let (j, h) = from_filter (λ v. has_product braid g v && is_listed braid v) w (words braid.letters m) i in
     let from : (length w ≡ m) × IsWordOver braid.letters w = from_words braid.letters m w j in
-    let both : (has_product braid g w ≡ true) × (is_listed braid w ≡ true) = both_hold (has_product braid g w) (is_listed braid w) h in
-    record { size = from.0; over = from.1; product = product_is braid g w both.0; least = either_true (is_least is_killed braid (but_last w)) (is_least is_killed braid (drop 1 w)) both.1 }
+    let both : (has_product braid g w ≡ true) × (is_listed braid w ≡ true) = and_parts (has_product braid g w) (is_listed braid w) h in
+    record { size = from.0; over = from.1; product = product_is braid g w both.0; least = or_cases (is_least is_killed braid (but_last w)) (is_least is_killed braid (drop 1 w)) both.1 }
 
 pub in_listed : (braid : BraidValue) (m : ℕ) (g w : List ℕ) → IsListedWord braid m g w → Contains (listed_words braid m g) w
 unfolding listed_words
@@ -141,8 +122,8 @@ in_listed braid m g w h =
     in_filter (λ v. has_product braid g v && is_listed braid v) w (words braid.letters m) (in_words braid.letters m w h.size h.over)
     (both_true (has_product_is braid g w h.product)
     (elim h.least [
-      | inl l ↦ from_left_test (is_least is_killed braid (but_last w)) (is_least is_killed braid (drop 1 w)) l
-      | inr l ↦ from_right_test (is_least is_killed braid (but_last w)) (is_least is_killed braid (drop 1 w)) l
+      | inl l ↦ or_left (is_least is_killed braid (but_last w)) (is_least is_killed braid (drop 1 w)) l
+      | inr l ↦ or_right (is_least is_killed braid (but_last w)) (is_least is_killed braid (drop 1 w)) l
     ]))
 
 -- `u b` for u of the lower block by b, and `a v` for v of the left lower block by a
@@ -205,7 +186,7 @@ right_of_listed_at braid is m g size b lb =
     (λ w i.
     let (j, h) = from_filter (is_right braid b) w (listed_words braid (suc m) g) i in
     let listed : IsListedWord braid (suc m) g w = from_listed braid (suc m) g w j in
-    let both : (is_least is_killed braid (but_last w) ≡ true) × (same_letters (but_last w ++ b ∷ []) w ≡ true) = both_hold (is_least is_killed braid (but_last w)) (same_letters (but_last w ++ b ∷ []) w) h in
+    let both : (is_least is_killed braid (but_last w) ≡ true) × (same_letters (but_last w ++ b ∷ []) w ≡ true) = and_parts (is_least is_killed braid (but_last w)) (same_letters (but_last w ++ b ∷ []) w) h in
     let e : but_last w ++ b ∷ [] ≡ w = same_text (but_last w ++ b ∷ []) w (sym both.1) in
     let l : HasLast braid m w = has_last braid m w listed.size listed.over in
     subst (Contains (map (λ u. u ++ b ∷ []) (lower_basis braid (suc m) g b))) e
@@ -228,11 +209,11 @@ pub left_of_listed_at : (braid : BraidValue) (m : ℕ) (g : List ℕ) (a : ℕ) 
 left_of_listed_at braid m g a la =
     rising_unique (filter (is_left braid a) (listed_words braid (suc m) g)) (map (λ v. a ∷ v) (left_lower_basis braid (suc m) g a))
     (rising-filter (is_left braid a) (listed_words braid (suc m) g) (listed_words_rise braid (suc m) g))
-    (rising-map (λ v. a ∷ v) (left_lower_basis braid (suc m) g a) (λ u v i j less. front_less a u v (of_size u i ∙ sym (of_size v j)) less) (left_lower_basis_rises braid (suc m) g a))
+    (rising-map (λ v. a ∷ v) (left_lower_basis braid (suc m) g a) (λ u v i j less. prepend_less a u v (of_size u i ∙ sym (of_size v j)) less) (left_lower_basis_rises braid (suc m) g a))
     (λ w i.
     let (j, h) = from_filter (is_left braid a) w (listed_words braid (suc m) g) i in
     let listed : IsListedWord braid (suc m) g w = from_listed braid (suc m) g w j in
-    let both : (is_least is_killed braid (drop 1 w) ≡ true) × (same_letters (a ∷ drop 1 w) w ≡ true) = both_hold (is_least is_killed braid (drop 1 w)) (same_letters (a ∷ drop 1 w) w) h in
+    let both : (is_least is_killed braid (drop 1 w) ≡ true) × (same_letters (a ∷ drop 1 w) w ≡ true) = and_parts (is_least is_killed braid (drop 1 w)) (same_letters (a ∷ drop 1 w) w) h in
     let e : a ∷ drop 1 w ≡ w = same_text (a ∷ drop 1 w) w (sym both.1) in
     let f : HasFirst braid m w = has_first braid m w listed.size listed.over in
     subst (Contains (map (λ v. a ∷ v) (left_lower_basis braid (suc m) g a))) e
@@ -280,7 +261,7 @@ new_of_listed braid m g some =
     let from : (length w ≡ m) × IsWordOver braid.letters w = from_words braid.letters m w k in
     let h : test w ≡ true = sym (same w from.0) ∙ new in
     in_filter test w (listed_words braid m g)
-    (in_listed braid m g w (record { size = from.0; over = from.1; product = product_is braid g w p; least = inl (both_hold (is_least is_killed braid (but_last w)) (is_least is_killed braid (drop 1 w)) h).0 })) h)
+    (in_listed braid m g w (record { size = from.0; over = from.1; product = product_is braid g w p; least = inl (and_parts (is_least is_killed braid (but_last w)) (is_least is_killed braid (drop 1 w)) h).0 })) h)
   where
     test : List ℕ → Bool
     test w = is_least is_killed braid (but_last w) && is_least is_killed braid (drop 1 w)

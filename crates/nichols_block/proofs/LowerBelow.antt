@@ -1,21 +1,14 @@
 -- Lower blocks of lower blocks: that by b and then by a is that by a and then by `a ▷ b`.
-use Rattle.std.proofs.Common.{◌≡◌, ℕ, zero, suc, ◌-◌, List, length, map, refl, sym, ◌∙◌, ap, arith}
+use Rattle.std.proofs.Common.{◌≡◌, ℕ, zero, suc, ◌-◌, List, map, refl, sym, ◌∙◌, ap}
 use Rattle.std.specs.Prelude.{slice_index}
-use Rattle.std.proofs.lemmas.List.{get_or-map}
-use Rattle.nichols_tensor.specs.Words.{IsLetterOf, up_to}
-use Rattle.nichols_tensor.proofs.Letters.{from_up_to, up_to_length}
+use Rattle.nichols_tensor.specs.Words.{up_to}
+use Rattle.nichols_tensor.proofs.Letters.{from_up_to}
 use Rattle.nichols_tensor.proofs.Tests.{map_same}
 use Rattle.nichols_braid.specs.Braid.{BraidValue, IsBraid, IsLetter, act}
 use Rattle.nichols_braid.specs.Product.{product_before, unact}
-use Rattle.nichols_braid.proofs.Onto.{unact_is_before, up_to_at}
+use Rattle.nichols_braid.proofs.Onto.{unact_is_before}
+use Rattle.nichols_braid.proofs.InlineProducts.{value_at_letter}
 use Rattle.nichols_value.specs.Block.{block_basis, lower_basis}
-
--- the value of f at a letter, in the list of its values
-value_at_letter : (n : ℕ) (f : ℕ → ℕ) (c : ℕ) → IsLetterOf n c → slice_index (map f (up_to n)) (c - 1) ≡ f c
-value_at_letter n f c l =
-    let size : length (up_to n) ≡ n = up_to_length n in
-    let back : suc (c - 1) ≡ c = omega (arith, l.0) in
-    get_or-map f (up_to n) (c - 1) 0 0 (omega (arith, size, l.0, l.1)) ∙ ap f (up_to_at n (c - 1) (omega (arith, l.0, l.1)) ∙ back)
 
 -- the product before two letters, by their inverse maps
 before_twice : (braid : BraidValue) → IsBraid braid → (g : List ℕ) (a c : ℕ) → IsLetter braid c → product_before braid c (product_before braid a g) ≡ map (λ j. slice_index g (unact braid a (unact braid c j) - 1)) (up_to braid.letters)

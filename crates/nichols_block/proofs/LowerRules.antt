@@ -24,7 +24,8 @@ use Rattle.nichols_value.specs.declared.value.BlockValue.{BlockValue}
 use Rattle.nichols_value.specs.declared.value.BlockValue.TheVariants.{Rule}
 use Rattle.nichols_value.proofs.Blocks.{no_lower_letter, product_before_leading, lower_basis_is, block_rows}
 use Rattle.nichols_value.proofs.LeftBlocks.{left_lower_is_lower, letter_sent_to}
-use Rattle.nichols_block.specs.Lower.{AreLowerRules, IsUpperBlock, IsNoRule}
+use Rattle.nichols_block.specs.Below.{IsNoRule}
+use Rattle.nichols_block.specs.Lower.{AreLowerRules, IsUpperBlock}
 
 -- where no lower value has the leading letter, there are no least words below
 no_words_at : (braid : BraidValue) (m : ℕ) (g : List ℕ) (lower : List LowerValue) (a : ℕ) → 1 ≤ m → map (λ (l : LowerValue). l.letter) lower ≡ lower_letters braid m g → IsLetter braid a →

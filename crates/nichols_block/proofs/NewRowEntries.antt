@@ -8,20 +8,18 @@ use Rattle.std.proofs.lemmas.List.{length-map, get_or-map}
 use Rattle.nichols_field.specs.Field.{FieldValue, IsField, IsElement, plus, times}
 use Rattle.nichols_field.proofs.FieldLaws.{plus_zero, times_zero, times_one, zero_is_element, plus_is_element}
 use Rattle.nichols_field.proofs.FieldAlgebra.{zero_plus, times_chosen}
-use Rattle.nichols_tensor.specs.Combination.{Combination, value_at, IsZero, AllElements, AllAmong, same_letters, single, extended, words_of}
+use Rattle.nichols_tensor.specs.Combination.{Combination, value_at, IsZero, AllElements, AllAmong, same_letters, single, linear_map}
 use Rattle.nichols_tensor.specs.Positions.{word_at}
 use Rattle.nichols_tensor.specs.WordOrder.{IsRising}
-use Rattle.nichols_tensor.proofs.Building.{elements-extended}
+use Rattle.nichols_tensor.proofs.Building.{elements-linear_map}
 use Rattle.nichols_tensor.proofs.Entries.{contains_none, contains_cases}
 use Rattle.nichols_tensor.proofs.Enumeration.{among_weaker}
-use Rattle.nichols_tensor.proofs.Linear.{extended-single}
-use Rattle.nichols_tensor.proofs.Order.{less_is_other}
-use Rattle.nichols_tensor.proofs.Ordered.{is_in_or_not, zero_at_others}
-use Rattle.nichols_tensor.proofs.Over.{all_at, all_of_words}
-use Rattle.nichols_tensor.proofs.Rising.{word_at_is_in, words_at_rise}
-use Rattle.nichols_tensor.proofs.Values.{weight, weight_is_element, weightless, weight-extended}
+use Rattle.nichols_tensor.proofs.Linear.{linear_map-single}
+use Rattle.nichols_tensor.proofs.Ordered.{is_in_or_not}
+use Rattle.nichols_tensor.proofs.Rising.{word_at_is_in}
+use Rattle.nichols_tensor.proofs.Values.{weight, weight_is_element, weightless, weight-linear_map}
 use Rattle.nichols_braid.specs.Braid.{BraidValue, IsBraid, IsLetter}
-use Rattle.nichols_braid.specs.Derivation.{derived_word, derived}
+use Rattle.nichols_braid.specs.Derivation.{derived_word, skew_derivative}
 use Rattle.nichols_braid.specs.Forms.{derived_form}
 use Rattle.nichols_braid.specs.Kernel.{is_killed, IsKilled}
 use Rattle.nichols_braid.specs.Least.{basis}
@@ -30,7 +28,7 @@ use Rattle.nichols_braid.specs.LinearTest.{IsLinearTest}
 use Rattle.nichols_braid.specs.Product.{product_before}
 use Rattle.nichols_braid.proofs.BraidLaws.{killed_is_linear, killed_is_ideal_from_right}
 use Rattle.nichols_braid.proofs.Congruences.{AreCongruent, congruent_sym, congruent_left, passes_too, zero_passes}
-use Rattle.nichols_braid.proofs.Forms.{congruent_extended, among-extended}
+use Rattle.nichols_braid.proofs.Forms.{congruent_extended, among-linear_map}
 use Rattle.nichols_braid.proofs.FormsOfDerivatives.{derived_form_is_normal}
 use Rattle.nichols_braid.proofs.Independence.{basis_is_independent}
 use Rattle.nichols_braid.proofs.Killed.{is_killed_sound, is_killed_complete}
@@ -45,7 +43,8 @@ use Rattle.nichols_rows.proofs.Rows.{AreFunctionals}
 use Rattle.nichols_rows.proofs.Split.{HaveEntries}
 use Rattle.nichols_value.specs.Block.{lower_basis}
 use Rattle.nichols_value.proofs.Blocks.{from_block_basis, lower_basis_is, lower_basis_rises, derived_in_block}
-use Rattle.nichols_block.specs.NewRows.{columns_to, shifted, joined, AreNewRows}
+use Rattle.nichols_value.proofs.FormCells.{elements_back, words_at_differ, no_value}
+use Rattle.nichols_block.specs.NewRows.{columns_to, cells_behind, joined_row, AreNewRows}
 use Rattle.nichols_block.specs.Rows.{AreRowsOf, AreNewDerivatives, rows_by}
 use Rattle.nichols_block.specs.Words.{block_new_words}
 use Rattle.nichols_block.proofs.NewBlockWords.{from_block_new_words}
@@ -71,22 +70,10 @@ place_within (v ∷ ws) w i = at (same_letters v w) refl i (place_within ws w)
           | inr j ↦ let r : (place_in ws w < length ws) × (word_at ws (place_in ws w) ≡ w) = rest j in (omega (arith, r.0), r.1)
         ]
 
--- of a list that rises a word has one place
-one_place : (ws : List (List ℕ)) → IsRising ws → (i j : ℕ) → i < length ws → j < length ws → word_at ws i ≡ word_at ws j → i ≡ j
-one_place ws rising i j within_i within_j same =
-    elim (cases_lt i j) [
-      | inl before ↦ absurd (less_is_other (word_at ws i) (word_at ws j) (words_at_rise ws i j rising before within_j) same)
-      | inr behind ↦
-          elim (cases_lt j i) [
-            | inl less ↦ absurd (less_is_other (word_at ws j) (word_at ws i) (words_at_rise ws j i rising less within_i) (sym same))
-            | inr more ↦ omega arith
-          ]
-    ]
-
 place_of_word_at : (ws : List (List ℕ)) → IsRising ws → (i : ℕ) → i < length ws → place_in ws (word_at ws i) ≡ i
 place_of_word_at ws rising i within =
     let r : (place_in ws (word_at ws i) < length ws) × (word_at ws (place_in ws (word_at ws i)) ≡ word_at ws i) = place_within ws (word_at ws i) (word_at_is_in ws i within) in
-    one_place ws rising (place_in ws (word_at ws i)) i r.0 within r.1
+    words_at_differ ws (place_in ws (word_at ws i)) i rising r.0 within r.1
 
 -- ---- weights
 
@@ -104,7 +91,7 @@ chosen_times k is b c e = times_chosen k b c 1 is ∙ ap (λ n. cond b n 0) (tim
 
 -- the entry of shifted cells is the weight of their combination
 entry_shifted : (k : FieldValue) → IsField k → (ws : List (List ℕ)) → IsRising ws → (offset column : ℕ) (cells : List Cell) → AllBelow (length ws) cells → AllCellsElements k cells →
-    entry k (shifted offset cells) column ≡ weight k (mark ws offset column) (combination_at ws cells)
+    entry k (cells_behind offset cells) column ≡ weight k (mark ws offset column) (combination_at ws cells)
 unfolding entry weight
 entry_shifted k is ws rising offset column [] below e = refl
 entry_shifted k is ws rising offset column (c ∷ cells) below e =
@@ -143,11 +130,10 @@ weight_behind k is ws offset column f among behind = weight_none k is (mark ws o
 
 -- a combination of some words is zero where its value is 0 at each of them
 zero_on : (k : FieldValue) → IsField k → (ws : List (List ℕ)) (f : Combination) → AllAmong f ws → ((w : List ℕ) → Contains ws w → value_at k f w ≡ 0) → IsZero k f
-unfolding AllAmong
 zero_on k is ws f among h w =
     elim (is_in_or_not w ws) [
       | inl i ↦ h w i
-      | inr none ↦ zero_at_others k is f w (λ i. none (all_at (λ v. Contains ws v) (words_of f) w (all_of_words (λ v. Contains ws v) f among) i))
+      | inr none ↦ no_value k is ws f among w none
     ]
 
 -- ---- several forms, one after the other
@@ -217,12 +203,12 @@ zeros_of_total k is ws offset steps form (suc b) over none a l =
 
 -- the weight of a row's entry is the total of the sums of the forms
 sum_of_totals : (k : FieldValue) → IsField k → (ws : ℕ → List (List ℕ)) (offset : ℕ → ℕ) (form : List ℕ → ℕ → Combination) (n column : ℕ) (f : Combination) →
-    weight k (λ w. total k ws offset (form w) n column) f ≡ total k ws offset (λ a. extended k (λ w. form w a) f) n column
+    weight k (λ w. total k ws offset (form w) n column) f ≡ total k ws offset (λ a. linear_map k (λ w. form w a) f) n column
 unfolding total
 sum_of_totals k is ws offset form zero column f = weight_none k is (λ w. 0) f (everywhere (λ t. ◌≡◌ {A = ℕ} 0 0) f (λ t. refl))
 sum_of_totals k is ws offset form (suc a) column f =
     weight-plus k is (λ w. total k ws offset (form w) a column) (λ w. weight k (mark (ws (suc a)) (offset a) column) (form w (suc a))) f
-    ∙ ap₂ (plus k) (sum_of_totals k is ws offset form a column f) (sym (weight-extended k is (mark (ws (suc a)) (offset a) column) (λ w. form w (suc a)) f))
+    ∙ ap₂ (plus k) (sum_of_totals k is ws offset form a column f) (sym (weight-linear_map k is (mark (ws (suc a)) (offset a) column) (λ w. form w (suc a)) f))
 
 -- ---- the rows of the new words of a block
 
@@ -234,7 +220,7 @@ columns_are_steps : (braid : BraidValue) (m : ℕ) (g : List ℕ) → AreSteps (
 unfolding columns_to
 columns_are_steps braid m g a = refl
 
-derived_is_normal : (braid : BraidValue) → IsBraid braid → (m : ℕ) (g w : List ℕ) → Contains (block_new_words braid (suc m) g) w → (a : ℕ) → IsLetter braid a → IsNormalForm is_killed braid m (derived braid a (single w)) (derived_form is_killed braid (suc m) w a)
+derived_is_normal : (braid : BraidValue) → IsBraid braid → (m : ℕ) (g w : List ℕ) → Contains (block_new_words braid (suc m) g) w → (a : ℕ) → IsLetter braid a → IsNormalForm is_killed braid m (skew_derivative braid a (single w)) (derived_form is_killed braid (suc m) w a)
 derived_is_normal braid is m g w i a la =
     let (size, over, e, new) = from_block_new_words braid (suc m) g w i in
     derived_form_is_normal is_killed braid is (killed_is_ideal_from_right braid is) m w a size over la
@@ -245,14 +231,14 @@ lower_is_least braid m g a w i = (from_block_basis braid m (product_before braid
 
 -- the sum of the forms of the derivatives of a combination of new words is the form of its derivative
 summed_form : (braid : BraidValue) → IsBraid braid → (m : ℕ) (g : List ℕ) (a : ℕ) → IsLetter braid a → (f : Combination) → AllAmong f (block_new_words braid (suc m) g) →
-    AllAmong (extended braid.field (λ w. derived_form is_killed braid (suc m) w a) f) (lower_basis braid (suc m) g a)
-    × AreCongruent braid.field (is_killed braid m) (derived braid a f) (extended braid.field (λ w. derived_form is_killed braid (suc m) w a) f)
+    AllAmong (linear_map braid.field (λ w. derived_form is_killed braid (suc m) w a) f) (lower_basis braid (suc m) g a)
+    × AreCongruent braid.field (is_killed braid m) (skew_derivative braid a f) (linear_map braid.field (λ w. derived_form is_killed braid (suc m) w a) f)
 unfolding AllAmong
 summed_form braid is m g a la f among = (
-  among-extended braid.field form f (lower_basis braid (suc m) g a) (all_among f among),
-  congruent_left braid.field is.field (is_killed braid m) (killed_is_linear braid is m) (extended braid.field (λ w. derived braid a (single w)) f) (derived braid a f) (extended braid.field form f)
-      (extended_same braid.field is.field (λ w. derived braid a (single w)) (derived_word braid a) f (λ w. extended-single braid.field is.field (derived_word braid a) w))
-      (congruent_extended braid.field is.field (is_killed braid m) (killed_is_linear braid is m) (λ w. derived braid a (single w)) form f (all_congruent f among)),
+  among-linear_map braid.field form f (lower_basis braid (suc m) g a) (all_among f among),
+  congruent_left braid.field is.field (is_killed braid m) (killed_is_linear braid is m) (linear_map braid.field (λ w. skew_derivative braid a (single w)) f) (skew_derivative braid a f) (linear_map braid.field form f)
+      (extended_same braid.field is.field (λ w. skew_derivative braid a (single w)) (derived_word braid a) f (λ w. linear_map-single braid.field is.field (derived_word braid a) w))
+      (congruent_extended braid.field is.field (is_killed braid m) (killed_is_linear braid is m) (λ w. skew_derivative braid a (single w)) form f (all_congruent f among)),
 )
   where
     form : List ℕ → Combination
@@ -262,7 +248,7 @@ summed_form braid is m g a la f among = (
     all_among [] h = tt
     all_among (t ∷ f) h = (let (size, over, e, new) = from_block_new_words braid (suc m) g t.word h.0 in derived_in_block braid is (suc m) g t.word size over e a la, all_among f h.1)
 
-    all_congruent : (f : Combination) → AllAmong f (block_new_words braid (suc m) g) → AllByRecursion (λ t. AreCongruent braid.field (is_killed braid m) (derived braid a (single t.word)) (form t.word)) f
+    all_congruent : (f : Combination) → AllAmong f (block_new_words braid (suc m) g) → AllByRecursion (λ t. AreCongruent braid.field (is_killed braid m) (skew_derivative braid a (single t.word)) (form t.word)) f
     all_congruent [] h = tt
     all_congruent (t ∷ f) h = ((derived_is_normal braid is m g t.word h.0 a la).congruent, all_congruent f h.1)
 
@@ -287,34 +273,30 @@ rows_tell braid is m g = record {
     l = killed_is_linear braid is m
 
     summed : Combination → ℕ → Combination
-    summed f a = extended k (λ w. derived_form is_killed braid (suc m) w a) f
+    summed f a = linear_map k (λ w. derived_form is_killed braid (suc m) w a) f
 
     sum : (f : Combination) (c : ℕ) → weight k (λ w. total k ws offset (λ a. derived_form is_killed braid (suc m) w a) braid.letters c) f ≡ total k ws offset (summed f) braid.letters c
     sum f c = sum_of_totals k is.field ws offset (derived_form is_killed braid (suc m)) braid.letters c f
 
     zero_of_killed : (f : Combination) → AllAmong f (block_new_words braid (suc m) g) → is_killed braid (suc m) f ≡ true → (a : ℕ) → IsLetter braid a → IsZero k (summed f a)
     zero_of_killed f among h a la =
-        let s : AllAmong (summed f a) (ws a) × AreCongruent k (is_killed braid m) (derived braid a f) (summed f a) = summed_form braid is m g a la f among in
+        let s : AllAmong (summed f a) (ws a) × AreCongruent k (is_killed braid m) (skew_derivative braid a f) (summed f a) = summed_form braid is m g a la f among in
         let killed : IsKilled braid (suc m) f = is_killed_sound braid is.field (suc m) f h in
         basis_is_independent is_killed braid is.field m l (summed f a) (among_weaker (summed f a) (ws a) (basis is_killed braid m) (lower_is_least braid m g a) s.0)
-        (passes_too k is.field (is_killed braid m) l (summed f a) (derived braid a f) (congruent_sym k is.field (is_killed braid m) l (derived braid a f) (summed f a) s.1)
-        (is_killed_complete braid m (derived braid a f) (killed a la)))
+        (passes_too k is.field (is_killed braid m) l (summed f a) (skew_derivative braid a f) (congruent_sym k is.field (is_killed braid m) l (skew_derivative braid a f) (summed f a) s.1)
+        (is_killed_complete braid m (skew_derivative braid a f) (killed a la)))
 
     killed_of_zero : (f : Combination) → AllAmong f (block_new_words braid (suc m) g) → ((c : ℕ) → weight k (λ w. total k ws offset (λ a. derived_form is_killed braid (suc m) w a) braid.letters c) f ≡ 0) →
-        (a : ℕ) → IsLetter braid a → IsKilled braid m (derived braid a f)
+        (a : ℕ) → IsLetter braid a → IsKilled braid m (skew_derivative braid a f)
     killed_of_zero f among none a la =
-        let s : AllAmong (summed f a) (ws a) × AreCongruent k (is_killed braid m) (derived braid a f) (summed f a) = summed_form braid is m g a la f among in
+        let s : AllAmong (summed f a) (ws a) × AreCongruent k (is_killed braid m) (skew_derivative braid a f) (summed f a) = summed_form braid is m g a la f among in
         let none_there : IsZero k (summed f a) =
         zeros_of_total k is.field ws offset (columns_are_steps braid (suc m) g) (summed f) braid.letters
-        (λ b lb. (elements-extended k is.field (λ w. derived_form is_killed braid (suc m) w b) f, (summed_form braid is m g b lb f among).0)) (λ c. sym (sum f c) ∙ none c) a la in
-        is_killed_sound braid is.field m (derived braid a f)
-        (passes_too k is.field (is_killed braid m) l (derived braid a f) (summed f a) s.1 (zero_passes k (is_killed braid m) l (summed f a) none_there))
+        (λ b lb. (elements-linear_map k is.field (λ w. derived_form is_killed braid (suc m) w b) f, (summed_form braid is m g b lb f among).0)) (λ c. sym (sum f c) ∙ none c) a la in
+        is_killed_sound braid is.field m (skew_derivative braid a f)
+        (passes_too k is.field (is_killed braid m) l (skew_derivative braid a f) (summed f a) s.1 (zero_passes k (is_killed braid m) l (summed f a) none_there))
 
 -- ---- their cells
-
-cells_elements : (k : FieldValue) (ws : List (List ℕ)) (cells : List Cell) → AllElements k (combination_at ws cells) → AllCellsElements k cells
-cells_elements k ws [] h = tt
-cells_elements k ws (c ∷ cells) h = (h.0, cells_elements k ws cells h.1)
 
 -- what is known of the i-th row by a letter
 pub record IsRowOf (k : FieldValue) (ws : List (List ℕ)) (form : Combination) (cells : List Cell) : Type 0 where
@@ -328,7 +310,7 @@ pub row_by_letter : (braid : BraidValue) → IsBraid braid → (m : ℕ) (g : Li
 row_by_letter braid is m g lists h i within a la = record {
   row = all_read IsRow rows i cells [] here.shape.shape inside refl;
   below = all_read (AllBelow (length ws)) rows i cells [] here.shape.below inside refl;
-  elements = cells_elements braid.field ws cells (subst (AllElements braid.field) (sym same) (derived_is_normal braid is m g (word_at news i) (word_at_is_in news i within) a la).elements);
+  elements = elements_back braid.field ws cells (subst (AllElements braid.field) (sym same) (derived_is_normal braid is m g (word_at news i) (word_at_is_in news i within) a la).elements);
   same = same;
 }
   where
@@ -360,8 +342,8 @@ row_by_letter braid is m g lists h i within a la = record {
     same = sym (get_or-map (combination_at ws) rows i [] [] inside) ∙ ap (λ fs. slice_index_or fs i []) here.forms ∙ get_or-map form news i [] [] within
 
 pub joined_entry : (braid : BraidValue) → IsBraid braid → (m : ℕ) (g : List ℕ) (lists : List RowsValue) → AreNewDerivatives braid (suc m) g lists → (i : ℕ) → i < length (block_new_words braid (suc m) g) → (column : ℕ) →
-    entry braid.field (joined braid (suc m) g lists i braid.letters) column ≡ row_number braid m g column (word_at (block_new_words braid (suc m) g) i)
-unfolding joined total row_number
+    entry braid.field (joined_row braid (suc m) g lists i braid.letters) column ≡ row_number braid m g column (word_at (block_new_words braid (suc m) g) i)
+unfolding joined_row total row_number
 joined_entry braid is m g lists h i within column = upto braid.letters (omega arith)
   where
     k : FieldValue
@@ -370,14 +352,14 @@ joined_entry braid is m g lists h i within column = upto braid.letters (omega ar
     form : ℕ → Combination
     form a = derived_form is_killed braid (suc m) (word_at (block_new_words braid (suc m) g) i) a
 
-    upto : (n : ℕ) → n ≤ braid.letters → entry k (joined braid (suc m) g lists i n) column ≡ total k (lower_basis braid (suc m) g) (columns_to braid (suc m) g) form n column
+    upto : (n : ℕ) → n ≤ braid.letters → entry k (joined_row braid (suc m) g lists i n) column ≡ total k (lower_basis braid (suc m) g) (columns_to braid (suc m) g) form n column
     upto zero less = entry-nil k column
     upto (suc a) less =
         let offset : ℕ = columns_to braid (suc m) g a in
         let ws : List (List ℕ) = lower_basis braid (suc m) g (suc a) in
         let cells : List Cell = slice_index_or (rows_by lists (suc a)).rows i [] in
         let r : IsRowOf k ws (form (suc a)) cells = row_by_letter braid is m g lists h i within (suc a) (omega arith, less) in
-        entry-append k is.field (joined braid (suc m) g lists i a) (shifted offset cells) column
+        entry-append k is.field (joined_row braid (suc m) g lists i a) (cells_behind offset cells) column
         ∙ ap₂ (plus k) (upto a (omega (arith, less))) (entry_shifted k is.field ws (lower_basis_rises braid (suc m) g (suc a)) offset column cells r.below r.elements ∙ ap (weight k (mark ws offset column)) r.same)
 
 -- the rows of the new words have these entries

@@ -3,6 +3,9 @@ use Rattle.std.proofs.Common.{◌≡◌, ℕ, suc, ◌+◌, ◌<◌, Bool, true,
 use Rattle.std.specs.List.{filter, AllByRecursion, Contains}
 use Rattle.std.specs.declared.cmp.Ordering.TheVariants.{Less}
 use Rattle.std.proofs.lemmas.Bool.{cases_lt}
+use Rattle.std.proofs.lemmas.List.Elements.{All-from_recursion}
+use Rattle.std.proofs.lemmas.List.{get_or_append_left}
+use Rattle.std.proofs.Math.Seq.{get_or-append_seam}
 use Rattle.nichols_tensor.specs.Combination.{Combination, AllAmong, single, words_of, AllNonzero}
 use Rattle.nichols_tensor.specs.Positions.{word_at}
 use Rattle.nichols_tensor.specs.Relation.{PlainRelation}
@@ -30,13 +33,11 @@ use Rattle.nichols_rows.specs.CombinationAt.{combination_at}
 use Rattle.nichols_rows.specs.Places.{IsInside, dependent_in, independent_in}
 use Rattle.nichols_value.specs.Block.{block_basis}
 use Rattle.nichols_value.proofs.Blocks.{from_block_basis, normal_in_block, block_basis_rises}
-use Rattle.nichols_value.proofs.Readings.{word_form_is_normal}
-use Rattle.nichols_value.proofs.KeptRows.{all_at_place}
-use Rattle.nichols_block.specs.Pass.{IsNumbering, is_both, least_more, new_cells, turned}
+use Rattle.nichols_value.proofs.RuleEntries.{word_form_is_normal}
+use Rattle.nichols_block.specs.Pass.{IsNumbering, is_both, least_more, new_cells, cells_at_columns}
 use Rattle.nichols_block.specs.Places.{ArePlacesOf, new_relations}
 use Rattle.nichols_block.specs.Words.{block_new_words}
 use Rattle.nichols_block.proofs.NewBlockWords.{block_new_words_rise, from_block_new_words}
-use Rattle.nichols_block.proofs.Sides.{entry_at_seam, entry_of_front}
 
 -- ---- lists
 
@@ -110,7 +111,7 @@ next_new new places test w rest done (u ∷ ahead) places_done [] passes count p
 next_new new places test w rest done (u ∷ ahead) places_done (p ∷ ps) passes count parts places_parts as_many words =
     let c : ◌≡◌ {A = List (List ℕ)} (w ∷ filter test rest) (u ∷ ahead) = sym (ap (λ b. cond b (w ∷ filter test rest) (filter test rest)) passes) ∙ words in
     let same : u ≡ w = cc in
-    let at : place_at places (length done) ≡ p = ap₂ (λ (xs : List Place) n. place_at xs n) places_parts (sym as_many) ∙ entry_at_seam places_done p ps Independent in record {
+    let at : place_at places (length done) ≡ p = ap₂ (λ (xs : List Place) n. place_at xs n) places_parts (sym as_many) ∙ get_or-append_seam places_done p ps Independent in record {
       later = ahead;
       places_later = ps;
       parts = parts ∙ ap (λ v. done ++ v ∷ ahead) same;
@@ -146,7 +147,7 @@ independent_row braid is m g w columns least fronts backs parts count = record {
   row = record { rising = (tt, tt); nonzero = (λ e. absurd (omega (arith, e)), tt) };
   below = (let size : length (block_basis braid m g) ≡ length fronts + suc (length backs) = ap length parts ∙ length-append fronts (w ∷ backs) in omega arith, tt);
   form =
-      ap single (ap₂ (λ vs n. word_at vs n) parts count ∙ entry_at_seam fronts w backs [])
+      ap single (ap₂ (λ vs n. word_at vs n) parts count ∙ get_or-append_seam fronts w backs [])
       ∙ sym (form_of_least is_killed braid is.field m (killed_is_linear braid is m) w here);
   told = (from_basis is_killed braid m w here).2;
 }
@@ -163,7 +164,7 @@ depends_row : (braid : BraidValue) → IsBraid braid → (m : ℕ) (g w : List �
 unfolding AllAmong
 depends_row braid is m g w columns least done later cells parts numbers below form not_least turns = record {
   inside = inside cells below among earlier;
-  row = row_from_ordered ws (block_basis_rises braid m g) (turned columns cells) (turned_below cells below among earlier) (subst IsOrdered (sym whole) normal.ordered);
+  row = row_from_ordered ws (block_basis_rises braid m g) (cells_at_columns columns cells) (turned_below cells below among earlier) (subst IsOrdered (sym whole) normal.ordered);
   below = turned_below cells below among earlier;
   form = whole;
   told = not_least;
@@ -192,7 +193,7 @@ depends_row braid is m g w columns least done later cells parts numbers below fo
 
     there : (i : ℕ) → i < length new → word_cmp (word_at new i) w ≡ Less → i < length columns
     there i less before =
-        let at : word_at new (length done) ≡ w = ap (λ vs. word_at vs (length done)) parts ∙ entry_at_seam done w later [] in
+        let at : word_at new (length done) ≡ w = ap (λ vs. word_at vs (length done)) parts ∙ get_or-append_seam done w later [] in
         let size : length new ≡ length done + suc (length later) = ap length parts ∙ length-append done (w ∷ later) in
         let h : i < length done = position_below new i (length done) (block_new_words_rise braid m g) less (omega arith) (ap (word_cmp (word_at new i)) at ∙ before) in omega (arith, h, numbers)
 
@@ -200,16 +201,16 @@ depends_row braid is m g w columns least done later cells parts numbers below fo
     inside [] b a e = tt
     inside (d ∷ ds) b a e = (there d.column b.0 e.0, inside ds b.1 a.1 e.1)
 
-    turned_below : (ds : List Cell) → AllBelow (length new) ds → AllAmong (combination_at new ds) ws → AllByRecursion (λ t. word_cmp t.word w ≡ Less) (combination_at new ds) → AllBelow (length ws) (turned columns ds)
+    turned_below : (ds : List Cell) → AllBelow (length new) ds → AllAmong (combination_at new ds) ws → AllByRecursion (λ t. word_cmp t.word w ≡ Less) (combination_at new ds) → AllBelow (length ws) (cells_at_columns columns ds)
     turned_below [] b a e = tt
     turned_below (d ∷ ds) b a e = ((turns d.column (there d.column b.0 e.0) a.0).0, turned_below ds b.1 a.1 e.1)
 
-    turned_form : (ds : List Cell) → AllBelow (length new) ds → AllAmong (combination_at new ds) ws → AllByRecursion (λ t. word_cmp t.word w ≡ Less) (combination_at new ds) → combination_at ws (turned columns ds) ≡ combination_at new ds
+    turned_form : (ds : List Cell) → AllBelow (length new) ds → AllAmong (combination_at new ds) ws → AllByRecursion (λ t. word_cmp t.word w ≡ Less) (combination_at new ds) → combination_at ws (cells_at_columns columns ds) ≡ combination_at new ds
     turned_form [] b a e = refl
     turned_form (d ∷ ds) b a e =
         ap₂ (λ v (f : Combination). record { word = v; coefficient = d.coefficient } ∷ f) (turns d.column (there d.column b.0 e.0) a.0).1 (turned_form ds b.1 a.1 e.1)
 
-    whole : combination_at ws (turned columns cells) ≡ normal_form is_killed braid m (single w)
+    whole : combination_at ws (cells_at_columns columns cells) ≡ normal_form is_killed braid m (single w)
     whole = turned_form cells below among earlier ∙ form
 
 -- what the places say of a word that depends on others
@@ -257,7 +258,7 @@ new_row braid is m g places w rest columns least p say passes n at =
     let same : place_at places (length n.done) ≡ p = ap (place_at places) (sym n.numbers) ∙ sym at in
     new_row_at braid is m g w places columns least n.done x.later n.places_done x.places_later say x.parts n.numbers n.as_many n.count n.turns p
     (x.places_parts ∙ ap (λ (q : Place). n.places_done ++ q ∷ x.places_later) same)
-    (subst (IsInside (length (block_new_words braid m g))) (sym at) (all_at_place (IsInside (length (block_new_words braid m g))) places (length columns) Independent say.inside there))
+    (subst (IsInside (length (block_new_words braid m g))) (sym at) (All-from_recursion (IsInside (length (block_new_words braid m g))) places say.inside (length columns) Independent there))
 
 -- it gets its number
 more_least : (done : List (List ℕ)) (w : List ℕ) (places_done : List Place) (p : Place) (least : ℕ) → length places_done ≡ length done → least ≡ length (independent_in done places_done) →
@@ -290,7 +291,7 @@ numbering_more braid is m g places w rest columns least p say passes n at r =
     let x : IsNextNew new places w n.done n.places_done (filter (is_both braid) rest) (place_at places (length n.done)) =
     next_new new places (is_both braid) w rest n.done n.ahead n.places_done n.places_ahead passes say.count n.parts n.places_parts n.as_many n.words in
     let same : place_at places (length n.done) ≡ p = ap (place_at places) (sym n.numbers) ∙ sym at in
-    let last : word_at new (length columns) ≡ w = ap₂ (λ vs i. word_at vs i) x.parts n.numbers ∙ entry_at_seam n.done w x.later [] in
+    let last : word_at new (length columns) ≡ w = ap₂ (λ vs i. word_at vs i) x.parts n.numbers ∙ get_or-append_seam n.done w x.later [] in
     record {
       done = n.done ++ w ∷ [];
       ahead = x.later;
@@ -320,12 +321,12 @@ numbering_more braid is m g places w rest columns least p say passes n at r =
     turns last q less here =
         elim (cases_lt q (length columns)) [
           | inl before ↦
-              let e : slice_index (columns ++ least ∷ []) q ≡ slice_index columns q = entry_of_front columns (least ∷ []) q 0 before in
+              let e : slice_index (columns ++ least ∷ []) q ≡ slice_index columns q = get_or_append_left columns (least ∷ []) 0 q before in
               let t : (slice_index columns q < length ws) × (word_at ws (slice_index columns q) ≡ word_at new q) = n.turns q before here in (subst (λ i. i < length ws) (sym e) t.0, ap (word_at ws) e ∙ t.1)
           | inr behind ↦
               let size : length (columns ++ least ∷ []) ≡ length columns + 1 = length-append columns (least ∷ []) in
               let at_end : q ≡ length columns = omega arith in
-              let e : slice_index (columns ++ least ∷ []) q ≡ least = ap (slice_index (columns ++ least ∷ [])) at_end ∙ entry_at_seam columns least [] 0 in
+              let e : slice_index (columns ++ least ∷ []) q ≡ least = ap (slice_index (columns ++ least ∷ [])) at_end ∙ get_or-append_seam columns least [] 0 in
               let word : word_at new q ≡ w = ap (word_at new) at_end ∙ last in
               let t : (least < length ws) × (word_at ws least ≡ w) = own_number braid m g w columns least p r r.form (subst (Contains ws) word here) is in
               (subst (λ i. i < length ws) (sym e) t.0, ap (word_at ws) e ∙ t.1 ∙ sym word)

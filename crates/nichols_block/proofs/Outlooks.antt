@@ -1,9 +1,8 @@
 -- What the values of the lower blocks of a block say of its value.
 use Rattle.std.proofs.Common.{◌≡◌, ◌↔◌, ℕ, zero, suc, ◌+◌, ◌-◌, ◌<◌, ◌≤◌, true, false, List, [], ◌∷◌, ◌++◌, map, length, get_or, take, refl, sym, ◌∙◌, ap, subst, arith, inl, inr}
 use Rattle.std.specs.List.{Contains}
-use Rattle.std.proofs.lemmas.List.{take_all, take_more}
-use Rattle.std.proofs.lemmas.List.Elements.{Contains-get_or}
-use Rattle.nichols_tensor.proofs.Entries.{contains_cases, contains_first, contains_none, from_map, in_either, in_left, in_map, in_right}
+use Rattle.std.proofs.lemmas.List.{take_more}
+use Rattle.nichols_tensor.proofs.Entries.{contains_cases, contains_first, contains_none, from_map, in_map}
 use Rattle.nichols_tensor.proofs.Over.{all_at}
 use Rattle.nichols_tensor.proofs.Tests.{all_of_entries}
 use Rattle.nichols_braid.specs.Braid.{BraidValue, IsBraid}
@@ -22,8 +21,11 @@ use Rattle.nichols_value.specs.Worth.{worth}
 use Rattle.nichols_value.proofs.FewWords.{lower_basis_within}
 use Rattle.nichols_value.proofs.Wholes.{all_lower_whole, not_whole, over_value, right_rule, rule_value, some_lower_not_whole, void_is_not_whole, void_value, whole_from}
 use Rattle.nichols_block.specs.declared.making.Outlook.TheVariants.{Rules, Starved, Void}
-use Rattle.nichols_block.specs.Lower.{AreFewBelow, AreLowerRules, AreLowerValues, IsUpperBlock}
-use Rattle.nichols_block.specs.Making.{AreAllowed, EachLower, IsARule, IsOverOrVoid, IsStarved, SomeLower, allows}
+use Rattle.nichols_block.specs.Allowed.{AreAllowed, allows}
+use Rattle.nichols_block.specs.Below.{AreFewBelow}
+use Rattle.nichols_block.specs.Lower.{AreLowerRules, AreLowerValues, IsUpperBlock}
+use Rattle.nichols_block.specs.Making.{EachLower, IsARule, IsOverOrVoid, IsStarved, SomeLower}
+use Rattle.std.proofs.lemmas.List.Elements.{Contains-append_left, Contains-append_right, Contains-append_cases}
 
 -- ---- one value
 
@@ -101,7 +103,7 @@ right_when_made braid limit key count r whole e few same =
 
 pub each_more : (P : BlockValue → Type 0) (lower : List LowerValue) (i : ℕ) (l : LowerValue) → i < length lower → l ≡ get_or lower i l → P (worth l.value) → EachLower P (take i lower) → EachLower P (take (i + 1) lower)
 each_more P lower i l less at here before x j =
-    elim (in_either x (take i lower) (l ∷ []) (subst (λ ls. Contains ls x) (take_more lower i l less ∙ ap (λ (y : LowerValue). take i lower ++ y ∷ []) (sym at)) j)) [
+    elim (Contains-append_cases (take i lower) (l ∷ []) x (subst (λ ls. Contains ls x) (take_more lower i l less ∙ ap (λ (y : LowerValue). take i lower ++ y ∷ []) (sym at)) j)) [
       | inl k ↦ before x k
       | inr k ↦
           elim (contains_cases l [] x k) [
@@ -112,20 +114,11 @@ each_more P lower i l less at here before x j =
 
 pub some_more : (P : BlockValue → Type 0) (lower : List LowerValue) (i : ℕ) (l : LowerValue) → i < length lower → l ≡ get_or lower i l → SomeLower P (take i lower) → SomeLower P (take (i + 1) lower)
 some_more P lower i l less at (x, j, h) =
-    (x, subst (λ ls. Contains ls x) (sym (take_more lower i l less ∙ ap (λ (y : LowerValue). take i lower ++ y ∷ []) (sym at))) (in_left x (take i lower) (l ∷ []) j), h)
+    (x, subst (λ ls. Contains ls x) (sym (take_more lower i l less ∙ ap (λ (y : LowerValue). take i lower ++ y ∷ []) (sym at))) (Contains-append_left (take i lower) (l ∷ []) x j), h)
 
 pub some_here : (P : BlockValue → Type 0) (lower : List LowerValue) (i : ℕ) (l : LowerValue) → i < length lower → l ≡ get_or lower i l → P (worth l.value) → SomeLower P (take (i + 1) lower)
 some_here P lower i l less at h =
-    (l, subst (λ ls. Contains ls l) (sym (take_more lower i l less ∙ ap (λ (y : LowerValue). take i lower ++ y ∷ []) (sym at))) (in_right l (take i lower) (l ∷ []) (contains_first l [])), h)
-
-pub some_of_all : (P : BlockValue → Type 0) (lower : List LowerValue) (i : ℕ) (l : LowerValue) → i < length lower → l ≡ get_or lower i l → P (worth l.value) → SomeLower P lower
-some_of_all P lower i l less at h = (l, subst (Contains lower) (sym at) (Contains-get_or lower i l less), h)
-
-pub each_all : (P : BlockValue → Type 0) (lower : List LowerValue) (i : ℕ) → length lower ≤ i → EachLower P (take i lower) → EachLower P lower
-each_all P lower i long = subst (EachLower P) (take_all i lower long)
-
-pub some_all : (P : BlockValue → Type 0) (lower : List LowerValue) (i : ℕ) → length lower ≤ i → SomeLower P (take i lower) → SomeLower P lower
-some_all P lower i long = subst (SomeLower P) (take_all i lower long)
+    (l, subst (λ ls. Contains ls l) (sym (take_more lower i l less ∙ ap (λ (y : LowerValue). take i lower ++ y ∷ []) (sym at))) (Contains-append_right (take i lower) (l ∷ []) l (contains_first l [])), h)
 
 -- ---- what the clauses say of it
 

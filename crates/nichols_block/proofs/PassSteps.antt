@@ -1,18 +1,18 @@
 -- How a pass goes on at a word: on both sides of its first and its last letter, and with its relation.
-use Rattle.std.proofs.Common.{◌≡◌, ◌≢◌, ℕ, suc, ◌+◌, ◌-◌, ◌<◌, ◌≤◌, ◌&&◌, Bool, true, false, cond, List, [], ◌∷◌, ◌++◌, drop, length, map, slice_index_or, refl, sym, ◌∙◌, ap, ap₂, subst, arith, inl, inr, append_assoc, nat_eq, ◌⊎◌, length-append}
+use Rattle.std.proofs.Common.{◌≡◌, ◌≢◌, ℕ, suc, ◌+◌, ◌-◌, ◌<◌, ◌≤◌, ◌&&◌, Bool, true, false, cond, List, [], ◌∷◌, ◌++◌, drop, length, map, slice_index_or, sym, ◌∙◌, ap, ap₂, subst, arith, inl, inr, append_assoc, length-append}
 use Rattle.std.specs.List.{filter, AllByRecursion, Contains}
-use Rattle.std.specs.Cmp.Lexicographic.{same_text}
 use Rattle.std.specs.declared.cmp.Ordering.TheVariants.{Less}
-use Rattle.std.proofs.lemmas.Bool.Decides.{Decides-eqb}
-use Rattle.std.proofs.lemmas.List.{get_or-map, get_or-set_same, get_or-set_other, length-map, map-append}
+use Rattle.std.proofs.lemmas.List.{get_or-map, get_or-set_same, get_or-set_other, length-map, map-append, append_cancel_left}
+use Rattle.std.proofs.Math.Bool.{and-true, and-false}
+use Rattle.std.proofs.lemmas.Bool.{cases_eq}
 use Rattle.nichols_field.specs.Field.{FieldValue}
-use Rattle.nichols_tensor.specs.Combination.{AllElements, Combination, extended, same_letters, single}
+use Rattle.nichols_tensor.specs.Combination.{AllElements, Combination, linear_map, same_letters, single}
 use Rattle.nichols_tensor.specs.InOrder.{in_order}
 use Rattle.nichols_tensor.specs.Positions.{word_at}
 use Rattle.nichols_tensor.specs.Relation.{PlainRelation}
 use Rattle.nichols_tensor.specs.Words.{IsWordOver, up_to}
 use Rattle.nichols_tensor.specs.WordOrder.{word_cmp, IsRising}
-use Rattle.nichols_tensor.proofs.Entries.{contains_first, contains_later, in_left}
+use Rattle.nichols_tensor.proofs.Entries.{contains_first, contains_later}
 use Rattle.nichols_tensor.proofs.Letters.{up_to_length}
 use Rattle.nichols_tensor.proofs.Over.{word_over_front}
 use Rattle.nichols_tensor.proofs.Values.{same_itself}
@@ -24,6 +24,7 @@ use Rattle.nichols_braid.specs.Product.{product_of}
 use Rattle.nichols_braid.proofs.BraidLaws.{killed_is_ideal_from_right, killed_is_linear}
 use Rattle.nichols_braid.proofs.LeftLaws.{killed_is_ideal_from_left}
 use Rattle.nichols_braid.proofs.SideForms.{left_form_is_normal, reads_earlier, right_form_is_normal}
+use Rattle.nichols_braid.proofs.Permutations.{apart_is_false}
 use Rattle.nichols_echelon.specs.Cells.{AllBelow, Cell, IsRow}
 use Rattle.nichols_echelon.specs.Cells.{AllElements as AllCellsElements}
 use Rattle.nichols_echelon.specs.Combination.{AllRowsBelow, AllRowsElements}
@@ -34,56 +35,34 @@ use Rattle.nichols_value.specs.Block.{block_basis, left_lower_basis, lower_basis
 use Rattle.nichols_value.specs.Rule.{right_forms}
 use Rattle.nichols_value.specs.Kept.{AreCellsOf, IsSpot, relation_at}
 use Rattle.nichols_value.proofs.Blocks.{block_basis_rises, normal_in_block}
-use Rattle.nichols_value.proofs.FormCells.{form_cells_elements}
-use Rattle.nichols_value.proofs.Readings.{letter_entry, left_word, right_word, word_form_is_normal}
+use Rattle.nichols_value.proofs.FormCells.{form_cells_elements, elements_back}
+use Rattle.nichols_value.proofs.RuleEntries.{letter_entry, left_word, right_word, word_form_is_normal}
 use Rattle.nichols_block.specs.Rows.{rows_by}
 use Rattle.nichols_block.specs.Words.{but_last, is_left, is_right}
 use Rattle.nichols_block.specs.Pass.{IsLeftSide, IsRightSide, IsRowSum, IsSide, IsTable, is_related, own_relation, with_row, with_row_of}
 use Rattle.nichols_block.proofs.Sides.{AreRead, side_pass, side_push, side_read}
 use Rattle.nichols_block.proofs.SumForms.{sum_form}
+use Rattle.std.proofs.lemmas.List.Elements.{Contains-append_left}
 
 -- ---- tests of words
 
-other_end : (u : List ℕ) (b c : ℕ) → u ++ b ∷ [] ≡ u ++ c ∷ [] → b ≡ c
-other_end [] b c e = cc
-other_end (x ∷ u) b c e = other_end u b c (cc)
-
-and_false : (s : Bool) → s && false ≡ false
-and_false true = refl
-and_false false = refl
-
-differ : (v w : List ℕ) → (v ≡ w → ⊥) → same_letters v w ≡ false
-differ v w other = at (same_letters v w) refl
-  where
-    at : (b : Bool) → same_letters v w ≡ b → same_letters v w ≡ false
-    at true e = absurd (other (same_text v w (sym e)))
-    at false e = e
-
 -- a word with its last letter, or its first one
 pub right_at : (braid : BraidValue) (b : ℕ) (w : List ℕ) → w ≡ but_last w ++ b ∷ [] → is_right braid b w ≡ is_least is_killed braid (but_last w)
-right_at braid b w e = ap (λ t. is_least is_killed braid (but_last w) && t) (ap (λ v. same_letters v w) (sym e) ∙ same_itself w) ∙ and_true (is_least is_killed braid (but_last w))
-  where
-    and_true : (s : Bool) → s && true ≡ s
-    and_true true = refl
-    and_true false = refl
+right_at braid b w e = ap (λ t. is_least is_killed braid (but_last w) && t) (ap (λ v. same_letters v w) (sym e) ∙ same_itself w) ∙ and-true (is_least is_killed braid (but_last w))
 
 pub right_at_other : (braid : BraidValue) (b c : ℕ) (w : List ℕ) → w ≡ but_last w ++ b ∷ [] → c ≢ b → is_right braid c w ≡ false
 right_at_other braid b c w e other =
-    ap (λ t. is_least is_killed braid (but_last w) && t) (differ (but_last w ++ c ∷ []) w (λ same. other (other_end (but_last w) c b (same ∙ e)))) ∙ and_false (is_least is_killed braid (but_last w))
+    ap (λ t. is_least is_killed braid (but_last w) && t) (apart_is_false (but_last w ++ c ∷ []) w (λ same. other (let h : c ∷ [] ≡ b ∷ [] = append_cancel_left (but_last w) (c ∷ []) (b ∷ []) (same ∙ e) in cc))) ∙ and-false (is_least is_killed braid (but_last w))
 
 pub not_right : (braid : BraidValue) (c : ℕ) (w : List ℕ) → is_least is_killed braid (but_last w) ≡ false → is_right braid c w ≡ false
 not_right braid c w e = ap (λ t. t && same_letters (but_last w ++ c ∷ []) w) e
 
 pub left_at : (braid : BraidValue) (a : ℕ) (w : List ℕ) → w ≡ a ∷ drop 1 w → is_left braid a w ≡ is_least is_killed braid (drop 1 w)
-left_at braid a w e = ap (λ t. is_least is_killed braid (drop 1 w) && t) (ap (λ v. same_letters v w) (sym e) ∙ same_itself w) ∙ and_true (is_least is_killed braid (drop 1 w))
-  where
-    and_true : (s : Bool) → s && true ≡ s
-    and_true true = refl
-    and_true false = refl
+left_at braid a w e = ap (λ t. is_least is_killed braid (drop 1 w) && t) (ap (λ v. same_letters v w) (sym e) ∙ same_itself w) ∙ and-true (is_least is_killed braid (drop 1 w))
 
 pub left_at_other : (braid : BraidValue) (a c : ℕ) (w : List ℕ) → w ≡ a ∷ drop 1 w → c ≢ a → is_left braid c w ≡ false
 left_at_other braid a c w e other =
-    ap (λ t. is_least is_killed braid (drop 1 w) && t) (differ (c ∷ drop 1 w) w (λ same. other (let h : c ∷ drop 1 w ≡ a ∷ drop 1 w = same ∙ e in cc))) ∙ and_false (is_least is_killed braid (drop 1 w))
+    ap (λ t. is_least is_killed braid (drop 1 w) && t) (apart_is_false (c ∷ drop 1 w) w (λ same. other (let h : c ∷ drop 1 w ≡ a ∷ drop 1 w = same ∙ e in cc))) ∙ and-false (is_least is_killed braid (drop 1 w))
 
 pub not_left : (braid : BraidValue) (c : ℕ) (w : List ℕ) → is_least is_killed braid (drop 1 w) ≡ false → is_left braid c w ≡ false
 not_left braid c w e = ap (λ t. t && same_letters (c ∷ drop 1 w) w) e
@@ -96,13 +75,6 @@ rows_here lists n a cells size some most = get_or-set_same lists (a - 1) (with_r
 pub rows_elsewhere : (lists : List RowsValue) (a c : ℕ) (cells : List Cell) → 1 ≤ a → 1 ≤ c → c ≢ a → rows_by (with_row_of lists a cells) c ≡ rows_by lists c
 rows_elsewhere lists a c cells some other_some other = get_or-set_other lists (a - 1) (c - 1) (with_row (rows_by lists a) cells) _ (λ e. other (let h : c ≡ a = omega arith in h))
 
-same_or_not : (a c : ℕ) → (c ≡ a) ⊎ (c ≢ a)
-same_or_not a c = at (nat_eq c a) refl
-  where
-    at : (b : Bool) → nat_eq c a ≡ b → (c ≡ a) ⊎ (c ≢ a)
-    at true e = inl ((Decides-eqb c a).0 e)
-    at false e = inr (λ same. let h : true ≡ false = sym ((Decides-eqb c a).1 same) ∙ e in cc)
-
 -- ---- sides of all letters
 
 -- the row of a word that is `u b` with u least
@@ -110,7 +82,7 @@ pub rights_more : (braid : BraidValue) (m : ℕ) (g w : List ℕ) (rest : List (
     is_least is_killed braid (but_last w) ≡ true → IsRow cells → AllBelow (length (block_basis braid m g)) cells → combination_at (block_basis braid m g) cells ≡ normal_form is_killed braid m (single w) →
     ((c : ℕ) → IsLetter braid c → IsRightSide braid m g (w ∷ rest) rights c) → (c : ℕ) → IsLetter braid c → IsRightSide braid m g rest (with_row_of rights b cells) c
 rights_more braid m g w rest rights b cells lb size word least row below form sides c lc =
-    elim (same_or_not b c) [
+    elim (cases_eq c b) [
       | inl same ↦
           subst (IsRightSide braid m g rest (with_row_of rights b cells)) (sym same)
           (subst (IsSide ws (lower_basis braid m g b) (λ u. u ++ b ∷ []) normal (is_right braid b) rest) (sym (rows_here rights braid.letters b cells size lb.0 lb.1))
@@ -135,7 +107,7 @@ pub lefts_more : (braid : BraidValue) (m : ℕ) (g w : List ℕ) (rest : List (L
     is_least is_killed braid (drop 1 w) ≡ true → IsRow cells → AllBelow (length (block_basis braid m g)) cells → combination_at (block_basis braid m g) cells ≡ normal_form is_killed braid m (single w) →
     ((c : ℕ) → IsLetter braid c → IsLeftSide braid m g (w ∷ rest) lefts c) → (c : ℕ) → IsLetter braid c → IsLeftSide braid m g rest (with_row_of lefts a cells) c
 lefts_more braid m g w rest lefts a cells la size word least row below form sides c lc =
-    elim (same_or_not a c) [
+    elim (cases_eq c a) [
       | inl same ↦
           subst (IsLeftSide braid m g rest (with_row_of lefts a cells)) (sym same)
           (subst (IsSide ws (left_lower_basis braid m g a) (λ u. a ∷ u) normal (is_left braid a) rest) (sym (rows_here lefts braid.letters a cells size la.0 la.1))
@@ -230,10 +202,6 @@ pub record AreReady (k : FieldValue) (width : ℕ) (rows : List (List Cell)) (ce
   pub elements : AllRowsElements k rows
   pub below : AllRowsBelow width rows
 
-elements_back : (k : FieldValue) (ws : List (List ℕ)) (cells : List Cell) → AllElements k (combination_at ws cells) → AllCellsElements k cells
-elements_back k ws [] e = tt
-elements_back k ws (c ∷ cells) e = (e.0, elements_back k ws cells e.1)
-
 rows_elements : (k : FieldValue) (ws : List (List ℕ)) (rows : List (List Cell)) → AllByRecursion (AllElements k) (map (combination_at ws) rows) → AllRowsElements k rows
 rows_elements k ws [] e = tt
 rows_elements k ws (row ∷ rows) e = (elements_back k ws row e.0, rows_elements k ws rows e.1)
@@ -242,7 +210,7 @@ rows_elements k ws (row ∷ rows) e = (elements_back k ws row e.0, rows_elements
 side_elements : (k : FieldValue) (ws us : List (List ℕ)) (image : List ℕ → List ℕ) (form : List ℕ → Combination) (test : List ℕ → Bool) (rest : List (List ℕ)) (kept : RowsValue) → ((u : List ℕ) → Contains us u → AllElements k (form (image u))) →
     IsSide ws us image form test rest kept → AllRowsElements k kept.rows
 side_elements k ws us image form test rest kept each s =
-    rows_elements k ws kept.rows (subst (AllByRecursion (AllElements k)) (sym s.rows.forms) (all_of s.done (λ u i. each u (subst (λ vs. Contains vs u) (sym s.parts) (in_left u s.done s.ahead i)))))
+    rows_elements k ws kept.rows (subst (AllByRecursion (AllElements k)) (sym s.rows.forms) (all_of s.done (λ u i. each u (subst (λ vs. Contains vs u) (sym s.parts) (Contains-append_left s.done s.ahead u i)))))
   where
     all_of : (vs : List (List ℕ)) → ((u : List ℕ) → Contains vs u → AllElements k (form (image u))) → AllByRecursion (AllElements k) (map (λ u. form (image u)) vs)
     all_of [] h = tt
@@ -306,9 +274,9 @@ read_left braid is n g w rest a lefts cells size over product la word least risi
         (over_cells us (λ v. word_cmp (a ∷ v) w ≡ Less) cells
         (subst (AllByRecursion (λ t. word_cmp (a ∷ t.word) w ≡ Less)) (sym are.form) (subst (λ v. AllByRecursion (λ t. word_cmp (a ∷ t.word) v ≡ Less) (normal_form is_killed braid n (single s))) (sym word) earlier))) side
 
-    whole : normal w ≡ in_order k (extended k (λ v. normal (a ∷ v)) (combination_at us cells))
+    whole : normal w ≡ in_order k (linear_map k (λ v. normal (a ∷ v)) (combination_at us cells))
     whole =
-        ap normal word ∙ left_form_is_normal is_killed braid is.field (killed_is_ideal_from_left braid is) n a s la s_size s_over ∙ ap (λ (f : Combination). in_order k (extended k (λ v. normal (a ∷ v)) f)) (sym are.form)
+        ap normal word ∙ left_form_is_normal is_killed braid is.field (killed_is_ideal_from_left braid is) n a s la s_size s_over ∙ ap (λ (f : Combination). in_order k (linear_map k (λ v. normal (a ∷ v)) f)) (sym are.form)
 
 -- and a word `u b` where u isn't least, from rows of words `u b`
 pub record IsReadRight (braid : BraidValue) (n : ℕ) (g : List ℕ) (w : List ℕ) (b : ℕ) (rights : List RowsValue) (cells : List Cell) : Type 0 where
@@ -364,7 +332,7 @@ read_right braid is n g w rest b rights cells size over product lb word least ri
         (over_cells us (λ v. word_cmp (v ++ b ∷ []) w ≡ Less) cells
         (subst (AllByRecursion (λ t. word_cmp (t.word ++ b ∷ []) w ≡ Less)) (sym are.form) (subst (λ v. AllByRecursion (λ t. word_cmp (t.word ++ b ∷ []) v ≡ Less) (normal_form is_killed braid n (single s))) (sym word) earlier))) side
 
-    whole : normal w ≡ in_order k (extended k (λ u. normal (u ++ b ∷ [])) (combination_at us cells))
+    whole : normal w ≡ in_order k (linear_map k (λ u. normal (u ++ b ∷ [])) (combination_at us cells))
     whole =
         ap normal word ∙ right_form_is_normal is_killed braid is.field (killed_is_ideal_from_right braid is) n s b s_size s_over lb
-        ∙ ap (λ (f : Combination). in_order k (extended k (λ u. normal (u ++ b ∷ [])) f)) (sym are.form)
+        ∙ ap (λ (f : Combination). in_order k (linear_map k (λ u. normal (u ++ b ∷ [])) f)) (sym are.form)

@@ -4,6 +4,7 @@ use Rattle.std.specs.Prelude.{slice_index}
 use Rattle.std.specs.List.{Contains}
 use Rattle.std.proofs.Math.Seq.{drop-cons}
 use Rattle.std.proofs.lemmas.List.{append-nil, get_or-map, length-map, length-replicate, length-set}
+use Rattle.std.proofs.lemmas.List.Elements.{All-from_recursion}
 use Rattle.nichols_tensor.specs.Combination.{single}
 use Rattle.nichols_tensor.specs.Positions.{word_at}
 use Rattle.nichols_tensor.specs.Words.{IsWordOver, up_to}
@@ -25,8 +26,8 @@ use Rattle.nichols_value.specs.declared.spot.Spot.{Spot}
 use Rattle.nichols_value.specs.Block.{block_basis, left_lower_basis, lower_basis}
 use Rattle.nichols_value.specs.Kept.{AreCellsOf, relation_at}
 use Rattle.nichols_value.specs.Rule.{left_forms, right_forms}
+use Rattle.nichols_value.proofs.KeptRows.{no_rows}
 use Rattle.nichols_block.specs.Forms.{AreFormsOf}
-use Rattle.nichols_value.proofs.KeptRows.{all_at_place}
 use Rattle.nichols_block.specs.declared.words.Listed.{Listed}
 use Rattle.nichols_block.specs.Places.{ArePlacesOf}
 use Rattle.nichols_block.specs.Rows.{rows_by}
@@ -101,10 +102,10 @@ word_is_met braid m g listed k l a b some are less at a_is b_is = record {
 
 -- what its marks say
 pub mark_right : (braid : BraidValue) (m : ℕ) (g : List ℕ) (listed : List Listed) (k : ℕ) (l : Listed) → AreListed braid m g listed → k < length listed → l ≡ get_or listed k l → is_least is_killed braid (but_last l.word) ≡ l.right
-mark_right braid m g listed k l are less at = sym (subst (λ (x : Listed). x.right ≡ is_least is_killed braid (but_last x.word)) (sym at) (all_at_place (λ (x : Listed). x.right ≡ is_least is_killed braid (but_last x.word)) listed k l are.right less))
+mark_right braid m g listed k l are less at = sym (subst (λ (x : Listed). x.right ≡ is_least is_killed braid (but_last x.word)) (sym at) (All-from_recursion (λ (x : Listed). x.right ≡ is_least is_killed braid (but_last x.word)) listed are.right k l less))
 
 pub mark_left : (braid : BraidValue) (m : ℕ) (g : List ℕ) (listed : List Listed) (k : ℕ) (l : Listed) → AreListed braid m g listed → k < length listed → l ≡ get_or listed k l → is_least is_killed braid (drop 1 l.word) ≡ l.left
-mark_left braid m g listed k l are less at = sym (subst (λ (x : Listed). x.left ≡ is_least is_killed braid (drop 1 x.word)) (sym at) (all_at_place (λ (x : Listed). x.left ≡ is_least is_killed braid (drop 1 x.word)) listed k l are.left less))
+mark_left braid m g listed k l are less at = sym (subst (λ (x : Listed). x.left ≡ is_least is_killed braid (drop 1 x.word)) (sym at) (All-from_recursion (λ (x : Listed). x.left ≡ is_least is_killed braid (drop 1 x.word)) listed are.left k l less))
 
 -- one of them says yes
 pub some_mark : (braid : BraidValue) (m : ℕ) (g : List ℕ) (listed : List Listed) (k : ℕ) (l : Listed) → AreListed braid m g listed → k < length listed → l ≡ get_or listed k l → is_least is_killed braid (but_last l.word) ≡ false → is_least is_killed braid (drop 1 l.word) ≡ true
@@ -145,12 +146,6 @@ at_word braid m g places listed k l a b rights lefts spots columns least some ar
       first_most = omega (arith, met.first.1, passing.left_letters);
       last_most = omega (arith, met.last.1, passing.right_letters);
     }
-
--- an entry that is there doesn't hang on a default
-pub any_default : {X : Type 0} (xs : List X) (i : ℕ) (d e : X) → i < length xs → get_or xs i d ≡ get_or xs i e
-any_default [] i d e less = absurd (omega arith)
-any_default (x ∷ xs) zero d e less = refl
-any_default (x ∷ xs) (suc i) d e less = any_default xs i d e (omega arith)
 
 -- ---- letters and rows
 
@@ -295,9 +290,6 @@ right_word_passes braid is m g w rest a b places rights lefts spots columns leas
 
 -- ---- the beginning, and the end
 
-abbrev no_rows_value : RowsValue
-no_rows_value = record { rows = []; begun = [] }
-
 pub pass_start : (braid : BraidValue) → IsBraid braid → (m : ℕ) (g : List ℕ) (places : List Place) (listed : List Listed) (rights lefts : List RowsValue) (n : ℕ) → 1 ≤ m → length g ≡ braid.letters → AreListed braid m g listed → n ≡ braid.letters →
     rights ≡ replicate n (record { rows = []; begun = [] }) → lefts ≡ replicate n (record { rows = []; begun = [] }) → IsPassing braid m g places (words_in listed) rights lefts [] [] 0
 pass_start braid is m g places listed rights lefts n some size are letters r l =
@@ -327,12 +319,12 @@ pass_start braid is m g places listed rights lefts n some size are letters r l =
       table = record { inside = tt; table = related_of_listed braid is m g some size };
     })
   where
-    at_any : (k i : ℕ) → slice_index_or (replicate k (record { rows = []; begun = [] })) i no_rows_value ≡ no_rows_value
+    at_any : (k i : ℕ) → slice_index_or (replicate k (record { rows = []; begun = [] })) i no_rows ≡ no_rows
     at_any zero i = refl
     at_any (suc k) zero = refl
     at_any (suc k) (suc i) = at_any k i
 
-    each_none : (lists : List RowsValue) (k b : ℕ) → lists ≡ replicate k (record { rows = []; begun = [] }) → rows_by lists b ≡ no_rows_value
+    each_none : (lists : List RowsValue) (k b : ℕ) → lists ≡ replicate k (record { rows = []; begun = [] }) → rows_by lists b ≡ no_rows
     each_none lists k b e = ap (λ (xs : List RowsValue). rows_by xs b) e ∙ at_any k (b - 1)
 
 pub pass_end : (braid : BraidValue) (m : ℕ) (g : List ℕ) (places : List Place) (rights lefts : List RowsValue) (spots : List Spot) (columns : List ℕ) (least : ℕ) → IsPassing braid m g places [] rights lefts spots columns least → AreFormsOf braid m g rights lefts spots

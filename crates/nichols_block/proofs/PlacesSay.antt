@@ -1,17 +1,16 @@
 -- What the split of the rows of a block's new words says: the words with independent rows are the least words of the block, and the
 -- combination of any other row is the normal form of its word.
-use Rattle.std.proofs.Common.{◌≡◌, ℕ, zero, suc, ◌<◌, ◌≤◌, Bool, true, false, not, cond, List, [], ◌∷◌, length, map, refl, sym, ◌∙◌, ap, ap₂, subst, arith}
+use Rattle.std.proofs.Common.{◌≡◌, ℕ, suc, ◌<◌, Bool, true, false, not, cond, List, [], ◌∷◌, length, map, refl, sym, ◌∙◌, ap, ap₂, subst, arith}
 use Rattle.std.specs.List.{filter, AllByRecursion, Contains}
 use Rattle.std.specs.declared.cmp.Ordering.TheVariants.{Less}
-use Rattle.nichols_field.specs.Field.{FieldValue, plus, times}
-use Rattle.nichols_tensor.specs.Combination.{Combination, AllElements, AllAmong, single, minus}
+use Rattle.nichols_field.specs.Field.{FieldValue}
+use Rattle.nichols_tensor.specs.Combination.{Combination, AllAmong, single, minus}
 use Rattle.nichols_tensor.specs.Positions.{word_at}
 use Rattle.nichols_tensor.specs.Relation.{PlainRelation}
 use Rattle.nichols_tensor.specs.Words.{IsWordOver, words_before}
 use Rattle.nichols_tensor.specs.WordOrder.{word_cmp, IsRising}
 use Rattle.nichols_tensor.proofs.AllWords.{in_words_before}
-use Rattle.nichols_tensor.proofs.Rising.{word_at_is_in, position_of, words_at_rise, position_below}
-use Rattle.nichols_tensor.proofs.Values.{weight}
+use Rattle.nichols_tensor.proofs.Rising.{word_at_is_in, words_at_rise}
 use Rattle.nichols_braid.specs.Braid.{BraidValue, IsBraid}
 use Rattle.nichols_braid.specs.Kernel.{is_killed}
 use Rattle.nichols_braid.specs.Least.{is_least, basis, normal_form}
@@ -28,7 +27,7 @@ use Rattle.nichols_braid.proofs.NormalForms.{form_is}
 use Rattle.nichols_braid.proofs.Reduction.{in_basis}
 use Rattle.nichols_echelon.specs.Cells.{Cell, AllBelow}
 use Rattle.nichols_echelon.specs.Cells.{AllElements as AllCellsElements}
-use Rattle.nichols_echelon.specs.Combination.{combined, IsDependent}
+use Rattle.nichols_echelon.specs.Combination.{IsDependent}
 use Rattle.nichols_echelon.specs.Rows.{RowsValue}
 use Rattle.nichols_echelon.specs.Split.{place_at, AllIndependent, IsPlace, IsSplit}
 use Rattle.nichols_echelon.specs.declared.rows.Place.{Place}
@@ -36,8 +35,8 @@ use Rattle.nichols_echelon.specs.declared.rows.Place.TheVariants.{Independent, D
 use Rattle.nichols_echelon.proofs.Uniqueness.{place_independent}
 use Rattle.nichols_rows.specs.CombinationAt.{combination_at}
 use Rattle.nichols_rows.specs.Places.{independent_in, dependent_in}
-use Rattle.nichols_rows.proofs.Rows.{congruent_by_rows, rows_of_congruent, combination_among, combination_elements, combination_is_ordered, below_more}
-use Rattle.nichols_rows.proofs.Split.{HaveEntries, places_inside}
+use Rattle.nichols_rows.proofs.Rows.{congruent_by_rows, rows_of_congruent, combination_among, combination_elements, combination_is_ordered, below_more, cells_of}
+use Rattle.nichols_rows.proofs.Split.{HaveEntries, places_inside, combined_as_weight, AllSaid, all_said}
 use Rattle.nichols_value.specs.Block.{block_basis}
 use Rattle.nichols_value.proofs.Blocks.{normal_in_block}
 use Rattle.nichols_block.specs.NewRows.{AreNewRows}
@@ -48,24 +47,6 @@ use Rattle.nichols_block.proofs.NewBlockWords.{from_block_new_words, block_new_w
 use Rattle.nichols_block.proofs.NewRowEntries.{row_number, rows_tell, new_rows_have_entries}
 
 -- ---- combinations of rows
-
-combined_as_weight : (k : FieldValue) (rows : List (List Cell)) (ws : List (List ℕ)) (φ : ℕ → List ℕ → ℕ) → HaveEntries k rows ws φ → (cells : List Cell) → AllBelow (length ws) cells → (column : ℕ) → combined k rows cells column ≡ weight k (φ column) (combination_at ws cells)
-unfolding combined weight
-combined_as_weight k rows ws φ entries [] below column = refl
-combined_as_weight k rows ws φ entries (c ∷ cells) below column = ap₂ (λ n r. plus k (times k c.coefficient n) r) (entries c.column column below.0) (combined_as_weight k rows ws φ entries cells below.1 column)
-
--- a combination of entries before the one at position i is made of cells with positions below i
-cells_of : (k : FieldValue) (ws : List (List ℕ)) → IsRising ws → (i : ℕ) → i < length ws → (f : Combination) → AllElements k f → AllByRecursion (λ t. Contains ws t.word × (word_cmp t.word (word_at ws i) ≡ Less)) f →
-    (cells : List Cell) × AllBelow i cells × AllCellsElements k cells × (combination_at ws cells ≡ f)
-cells_of k ws rising i within [] e h = ([], tt, tt, refl)
-cells_of k ws rising i within (t ∷ f) e h =
-    let (j, less, same) = position_of ws t.word h.0.0 in
-    let (cells, below, elements, all) = cells_of k ws rising i within f e.1 h.1 in (
-      record { column = j; coefficient = t.coefficient } ∷ cells,
-      (position_below ws j i rising less within (ap (λ w. word_cmp w (word_at ws i)) same ∙ h.0.1), below),
-      (e.0, elements),
-      ap (λ w. record { word = w; coefficient = t.coefficient } ∷ combination_at ws cells) same ∙ ap (λ g. t ∷ g) all,
-    )
 
 -- ---- the place of one word
 
@@ -218,16 +199,6 @@ place_says braid is m g rows entries places each i within (Depends cells) h = (
 
 -- ---- all of them
 
-abbrev AllSaid : (List ℕ → Place → Type 0) → List (List ℕ) → List Place → Type 0
-AllSaid R [] places = Unit {0}
-AllSaid R (w ∷ ws) [] = ⊥
-AllSaid R (w ∷ ws) (p ∷ places) = R w p × AllSaid R ws places
-
-all_said : (R : List ℕ → Place → Type 0) (ws : List (List ℕ)) (places : List Place) → length places ≡ length ws → ((i : ℕ) → i < length ws → R (word_at ws i) (place_at places i)) → AllSaid R ws places
-all_said R [] places e h = tt
-all_said R (w ∷ ws) [] e h = absurd (omega arith)
-all_said R (w ∷ ws) (p ∷ places) e h = (h 0 (omega arith), all_said R ws places (omega arith) (λ i less. h (suc i) (omega arith)))
-
 least_are_independent : (braid : BraidValue) (m : ℕ) (all ws : List (List ℕ)) (places : List Place) → AllSaid (IsSaid braid m all) ws places → independent_in ws places ≡ filter (is_least is_killed braid) ws
 least_are_independent braid m all [] places h = refl
 least_are_independent braid m all (w ∷ ws) [] h = absurd h
@@ -283,9 +254,3 @@ places_say braid is m g lists rows places h r split = record {
 
     said : AllSaid (IsSaid braid (suc m) news) news places
     said = all_said (IsSaid braid (suc m) news) news places (split.count ∙ count) (λ i within. place_says braid is m g rows entries places each i within (place_at places i) (each i within))
-
--- the same, of a degree that isn't 0
-pub places_of_rows : (braid : BraidValue) → IsBraid braid → (m : ℕ) (g : List ℕ) (lists : List RowsValue) (rows : List (List Cell)) (places : List Place) → 1 ≤ m → AreNewDerivatives braid m g lists → AreNewRows braid m g lists rows → IsSplit braid.field rows places →
-    ArePlacesOf braid m g places
-places_of_rows braid is zero g lists rows places some h r split = absurd (omega (arith, some))
-places_of_rows braid is (suc m) g lists rows places some h r split = places_say braid is m g lists rows places h r split

@@ -2,9 +2,8 @@
 use Rattle.std.proofs.Common.{◌≡◌, ℕ, suc, ◌-◌, true, false, List, [], ◌∷◌, ◌++◌, length, refl, sym, ◌∙◌, ap, subst, arith, inl, inr, ◌⊎◌}
 use Rattle.std.specs.Prelude.{slice_index}
 use Rattle.std.specs.List.{AllByRecursion, Contains}
-use Rattle.std.specs.Cmp.Derive.{both_true}
 use Rattle.std.specs.declared.cmp.Ordering.TheVariants.{Less}
-use Rattle.nichols_tensor.specs.Combination.{Combination, AllAmong, extended, single}
+use Rattle.nichols_tensor.specs.Combination.{Combination, AllAmong, linear_map, single}
 use Rattle.nichols_tensor.specs.InOrder.{in_order}
 use Rattle.nichols_tensor.specs.Words.{IsWordOver}
 use Rattle.nichols_tensor.specs.WordOrder.{word_cmp}
@@ -27,7 +26,6 @@ use Rattle.nichols_braid.proofs.Suffixes.{suffix_is_least}
 use Rattle.nichols_value.specs.Block.{block_basis, left_lower_basis, lower_basis}
 use Rattle.nichols_value.proofs.Blocks.{from_block_basis, in_lower_basis, normal_in_block, product_before_of}
 use Rattle.nichols_value.proofs.LeftBlocks.{alike_by_product, in_left_lower_basis, right_product}
-use Rattle.nichols_block.specs.Pass.{is_both}
 use Rattle.nichols_block.specs.Words.{but_last}
 use Rattle.nichols_block.proofs.ListedWords.{but_last-push, IsListedWord}
 
@@ -39,7 +37,7 @@ pub record IsReadLeft (braid : BraidValue) (m : ℕ) (g : List ℕ) (a : ℕ) (v
   pub among : AllAmong (normal_form is_killed braid (suc m) (single (v ++ b ∷ []))) (left_lower_basis braid (suc (suc m)) g a)
   pub earlier : AllByRecursion (λ t. word_cmp (a ∷ t.word) (a ∷ v ++ b ∷ []) ≡ Less) (normal_form is_killed braid (suc m) (single (v ++ b ∷ [])))
   pub form : normal_form is_killed braid (suc (suc m)) (single (a ∷ v ++ b ∷ []))
-      ≡ in_order braid.field (extended braid.field (λ u. normal_form is_killed braid (suc (suc m)) (single (a ∷ u))) (normal_form is_killed braid (suc m) (single (v ++ b ∷ []))))
+      ≡ in_order braid.field (linear_map braid.field (λ u. normal_form is_killed braid (suc (suc m)) (single (a ∷ u))) (normal_form is_killed braid (suc m) (single (v ++ b ∷ []))))
 
 -- from the right: `a v` isn't least, and `v b` is
 pub record IsReadRight (braid : BraidValue) (m : ℕ) (g : List ℕ) (a : ℕ) (v : List ℕ) (b : ℕ) : Type 0 where
@@ -49,7 +47,7 @@ pub record IsReadRight (braid : BraidValue) (m : ℕ) (g : List ℕ) (a : ℕ) (
   pub among : AllAmong (normal_form is_killed braid (suc m) (single (a ∷ v))) (lower_basis braid (suc (suc m)) g b)
   pub earlier : AllByRecursion (λ t. word_cmp (t.word ++ b ∷ []) (a ∷ v ++ b ∷ []) ≡ Less) (normal_form is_killed braid (suc m) (single (a ∷ v)))
   pub form : normal_form is_killed braid (suc (suc m)) (single (a ∷ v ++ b ∷ []))
-      ≡ in_order braid.field (extended braid.field (λ u. normal_form is_killed braid (suc (suc m)) (single (u ++ b ∷ []))) (normal_form is_killed braid (suc m) (single (a ∷ v))))
+      ≡ in_order braid.field (linear_map braid.field (λ u. normal_form is_killed braid (suc (suc m)) (single (u ++ b ∷ []))) (normal_form is_killed braid (suc m) (single (a ∷ v))))
 
 -- words of one product have one product with a letter in front, and with a letter behind
 pub product_in_front : (braid : BraidValue) (a : ℕ) (u w : List ℕ) → product_of braid u ≡ product_of braid w → product_of braid (a ∷ u) ≡ product_of braid (a ∷ w)
@@ -177,9 +175,3 @@ has_ends m (a ∷ w) e =
       whole = ap (λ x. a ∷ x) same;
       size = (let n : suc (length v) ≡ length w = sym (pushed_length v b) ∙ ap length (sym same) in omega (arith, n, e));
     }
-
--- a listed word of one letter is least both ways
-pub letter_is_both : (braid : BraidValue) (g w : List ℕ) → IsListedWord braid 1 g w → is_both braid w ≡ true
-letter_is_both braid g [] h = absurd (let e : ◌≡◌ {A = ℕ} 0 1 = h.size in omega (arith, e))
-letter_is_both braid g (a ∷ []) h = both_true (elim h.least [ inl l ↦ l | inr l ↦ l ]) (elim h.least [ inl l ↦ l | inr l ↦ l ])
-letter_is_both braid g (a ∷ b ∷ w) h = absurd (let e : suc (suc (length w)) ≡ 1 = h.size in omega (arith, e))

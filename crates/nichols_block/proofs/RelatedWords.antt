@@ -1,8 +1,8 @@
 -- The relations of a block are those of the listed words `u b`, with u least, that aren't least.
-use Rattle.std.proofs.Common.{◌≡◌, ℕ, zero, suc, ◌≤◌, Bool, true, false, cond, not, List, [], ◌∷◌, ◌++◌, map, length, refl, sym, ◌∙◌, ap, subst, arith}
-use Rattle.std.specs.Prelude.{◌&&◌}
+use Rattle.std.proofs.Common.{◌≡◌, ℕ, zero, suc, ◌≤◌, true, not, List, [], ◌∷◌, ◌++◌, map, length, sym, ◌∙◌, ap, subst, arith}
 use Rattle.std.specs.List.{filter, Contains}
 use Rattle.std.specs.Cmp.Derive.{both_true}
+use Rattle.std.proofs.lemmas.Bool.{and_parts}
 use Rattle.nichols_tensor.specs.Relation.{PlainRelation}
 use Rattle.nichols_tensor.specs.WordOrder.{IsRising}
 use Rattle.nichols_tensor.proofs.Entries.{in_filter, from_filter}
@@ -12,19 +12,12 @@ use Rattle.nichols_braid.specs.Kernel.{is_killed}
 use Rattle.nichols_braid.specs.Least.{is_least, candidates, relations}
 use Rattle.nichols_braid.specs.Product.{product_of, has_product}
 use Rattle.nichols_braid.proofs.Candidates.{candidates_rise}
+use Rattle.nichols_braid.proofs.Lists.{filter-map}
 use Rattle.nichols_value.specs.Block.{block_relations}
 use Rattle.nichols_value.proofs.Blocks.{has_product_is, product_is, from_block_candidates, in_block_candidates}
 use Rattle.nichols_block.specs.Pass.{is_related, own_relation}
 use Rattle.nichols_block.specs.Words.{but_last, listed_words}
 use Rattle.nichols_block.proofs.ListedWords.{but_last-push, from_listed, from_right_word, in_listed, listed_words_rise, right_word, IsListedWord}
-
-filter-map : {X Y : Type 0} (t : Y → Bool) (f : X → Y) (xs : List X) → filter t (map f xs) ≡ map f (filter (λ x. t (f x)) xs)
-filter-map t f [] = refl
-filter-map t f (x ∷ xs) = ap (λ l. cond (t (f x)) (f x ∷ l) l) (filter-map t f xs) ∙ at (t (f x))
-  where
-    at : (b : Bool) → cond b (f x ∷ map f (filter (λ y. t (f y)) xs)) (map f (filter (λ y. t (f y)) xs)) ≡ map f (cond b (x ∷ filter (λ y. t (f y)) xs) (filter (λ y. t (f y)) xs))
-    at true = refl
-    at false = refl
 
 -- the candidates of the relations of a block
 pub related : BraidValue → ℕ → List ℕ → List (List ℕ)
@@ -51,10 +44,6 @@ from_related braid m g w i =
     let (k, other) = from_filter (λ v. not (is_least is_killed braid v)) w (candidates is_killed braid m) j in
     (k, product_is braid g w h, other)
 
-both_hold : (a b : Bool) → (a && b) ≡ true → (a ≡ true) × (b ≡ true)
-both_hold true b h = (refl, h)
-both_hold false b h = absurd (let e : false ≡ true = h in cc)
-
 related_listed_at : (braid : BraidValue) → IsBraid braid → (m : ℕ) (g : List ℕ) → length g ≡ braid.letters → filter (is_related braid) (listed_words braid (suc m) g) ≡ related braid (suc m) g
 related_listed_at braid is m g size =
     rising_unique (filter (is_related braid) (listed_words braid (suc m) g)) (related braid (suc m) g) (rising-filter (is_related braid) (listed_words braid (suc m) g) (listed_words_rise braid (suc m) g)) (related_rise braid (suc m) g) there back
@@ -63,7 +52,7 @@ related_listed_at braid is m g size =
     there w i =
         let (j, h) = from_filter (is_related braid) w (listed_words braid (suc m) g) i in
         let l : IsListedWord braid (suc m) g w = from_listed braid (suc m) g w j in
-        let (least, other) = both_hold (is_least is_killed braid (but_last w)) (not (is_least is_killed braid w)) h in
+        let (least, other) = and_parts (is_least is_killed braid (but_last w)) (not (is_least is_killed braid w)) h in
         let (b, lb, k, whole) = from_right_word braid is m g w l least in
         in_related braid (suc m) g w (subst (Contains (candidates is_killed braid (suc m))) (sym whole) (in_block_candidates braid is m g size b lb (but_last w) k).0) l.product other
 

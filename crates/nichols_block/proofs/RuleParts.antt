@@ -1,7 +1,7 @@
 -- The rule of a block from its parts.
-use Rattle.std.proofs.Common.{◌≡◌, ℕ, zero, suc, ◌+◌, ◌-◌, ◌<◌, ◌≤◌, List, [], ◌∷◌, ◌++◌, map, length, get_or, take, refl, sym, ◌∙◌, ap, ap₂, subst, arith, Some}
+use Rattle.std.proofs.Common.{◌≡◌, ℕ, suc, ◌+◌, ◌-◌, ◌<◌, ◌≤◌, List, [], ◌∷◌, ◌++◌, map, length, get_or, take, refl, sym, ◌∙◌, ap, ap₂, subst, arith, Some}
 use Rattle.std.specs.List.{AllByRecursion}
-use Rattle.std.proofs.lemmas.List.{get_or-map, length-map, take_all, take_more, map-append}
+use Rattle.std.proofs.lemmas.List.{get_or-map, length-map, take_all, take_more, map-append, get_or_default}
 use Rattle.std.proofs.lemmas.List.Elements.{recursion_from_All}
 use Rattle.nichols_tensor.specs.declared.TheConstants.{WORD_LIMIT}
 use Rattle.nichols_tensor.specs.Combination.{Combination}
@@ -25,12 +25,15 @@ use Rattle.nichols_value.specs.Block.{block_basis, block_relations, lower_basis}
 use Rattle.nichols_value.specs.Kept.{AllShort, AreFormRows, AreFormRowsOfEach, HaveRowEach, IsShaped, IsSpot, IsUpperShaped, forms_over, forms_over_each, relation_at, rule_by, upper_by}
 use Rattle.nichols_value.specs.Rule.{block_derivs, lean_rule_of, left_forms, right_forms, rule_of, upper_of}
 use Rattle.nichols_value.proofs.Blocks.{block_basis_rises, lower_basis_rises}
-use Rattle.nichols_value.proofs.Readings.{derivs_count, letter_count, letter_entry, lower_words_are_short, right_count}
+use Rattle.nichols_value.proofs.RuleEntries.{derivs_count, letter_count, letter_entry, lower_words_are_short, right_count}
+use Rattle.nichols_value.proofs.KeptRows.{no_rows}
 use Rattle.nichols_block.specs.Forms.{AreFormsOf}
 use Rattle.nichols_block.specs.Places.{ArePlacesOf}
 use Rattle.nichols_block.specs.Rows.{AreLeastDerivatives, AreNewDerivatives, AreRowsOf, rows_by}
 use Rattle.nichols_block.specs.Words.{block_new_words}
 use Rattle.nichols_block.proofs.FlatRows.{IsByLetter, by_letter_at}
+use Rattle.nichols_block.specs.Lower.{IsUpperBlock}
+use Rattle.nichols_block.proofs.LowerRules.{images_of_all}
 
 -- ---- independent entries
 
@@ -58,14 +61,11 @@ least_are_rows ws F news least places rows e h = record {
 
 -- ---- lists by letter
 
-abbrev none : RowsValue
-none = record { rows = []; begun = [] }
-
 one_on : (k : ℕ) → k + 1 - 1 ≡ k
 one_on k = omega arith
 
-pub row_entry : (lists : List RowsValue) (k : ℕ) → rows_by lists (k + 1) ≡ get_or lists k none
-row_entry lists k = ap (λ i. get_or lists i none) (one_on k)
+pub row_entry : (lists : List RowsValue) (k : ℕ) → rows_by lists (k + 1) ≡ get_or lists k no_rows
+row_entry lists k = ap (λ i. get_or lists i no_rows) (one_on k)
 
 entry_of : {X : Type 0} (f : ℕ → List X) (n k : ℕ) → k < n → get_or (map f (up_to n)) k [] ≡ f (k + 1)
 entry_of f n k less = sym (ap (λ i. get_or (map f (up_to n)) i []) (one_on k)) ∙ letter_entry f n (k + 1) (omega arith, omega arith)
@@ -94,7 +94,7 @@ least_derivatives_are braid m g lists places i out h p long e = subst (AreLeastD
   letters = length-map lists (least_in places) ∙ h.letters;
   each = λ a la.
       let inside : a - 1 < length lists = omega (arith, la.0, la.1, h.letters) in
-      subst (AreRowsOf (lower_basis braid m g a) (map (λ w. derived_form is_killed braid m w a) (block_basis braid m g))) (sym (get_or-map (least_in places) lists (a - 1) none none inside))
+      subst (AreRowsOf (lower_basis braid m g a) (map (λ w. derived_form is_killed braid m w a) (block_basis braid m g))) (sym (get_or-map (least_in places) lists (a - 1) no_rows no_rows inside))
       (least_are_rows (lower_basis braid m g a) (λ w. derived_form is_killed braid m w a) (block_new_words braid m g) (block_basis braid m g) places (rows_by lists a) p.least (h.each a la));
 })
 
@@ -106,19 +106,19 @@ map_at f d e [] (y ∷ ys) size h = absurd (omega arith)
 map_at f d e (x ∷ xs) [] size h = absurd (omega arith)
 map_at f d e (x ∷ xs) (y ∷ ys) size h = ap₂ (λ z zs. z ∷ zs) (h 0 (omega arith)) (map_at f d e xs ys (omega arith) (λ k less. h (suc k) (omega arith)))
 
-have_rows : (below : List (List (List ℕ))) (lists : List RowsValue) → length below ≡ length lists → ((k : ℕ) → k < length lists → length (get_or lists k none).rows ≡ length (get_or below k [])) → HaveRowEach below lists
+have_rows : (below : List (List (List ℕ))) (lists : List RowsValue) → length below ≡ length lists → ((k : ℕ) → k < length lists → length (get_or lists k no_rows).rows ≡ length (get_or below k [])) → HaveRowEach below lists
 have_rows [] [] size h = tt
 have_rows [] (r ∷ lists) size h = absurd (omega arith)
 have_rows (ws ∷ below) [] size h = absurd (omega arith)
 have_rows (ws ∷ below) (r ∷ lists) size h = (h 0 (omega arith), have_rows below lists (omega arith) (λ k less. h (suc k) (omega arith)))
 
-form_rows_each : (below : List (List (List ℕ))) (lists : List RowsValue) → length below ≡ length lists → ((k : ℕ) → k < length lists → AreFormRows (length (get_or below k [])) (get_or lists k none)) → AreFormRowsOfEach below lists
+form_rows_each : (below : List (List (List ℕ))) (lists : List RowsValue) → length below ≡ length lists → ((k : ℕ) → k < length lists → AreFormRows (length (get_or below k [])) (get_or lists k no_rows)) → AreFormRowsOfEach below lists
 form_rows_each [] [] size h = tt
 form_rows_each [] (r ∷ lists) size h = absurd (omega arith)
 form_rows_each (ws ∷ below) [] size h = absurd (omega arith)
 form_rows_each (ws ∷ below) (r ∷ lists) size h = (h 0 (omega arith), form_rows_each below lists (omega arith) (λ k less. h (suc k) (omega arith)))
 
-forms_each : (below : List (List (List ℕ))) (lists : List RowsValue) (fs : List (List Combination)) → length below ≡ length lists → length lists ≡ length fs → ((k : ℕ) → k < length lists → forms_over (get_or below k []) (get_or lists k none) ≡ get_or fs k []) →
+forms_each : (below : List (List (List ℕ))) (lists : List RowsValue) (fs : List (List Combination)) → length below ≡ length lists → length lists ≡ length fs → ((k : ℕ) → k < length lists → forms_over (get_or below k []) (get_or lists k no_rows) ≡ get_or fs k []) →
     forms_over_each below lists ≡ fs
 forms_each [] [] [] size same h = refl
 forms_each [] [] (f ∷ fs) size same h = absurd (omega arith)
@@ -141,17 +141,24 @@ pub record AreParts (braid : BraidValue) (m : ℕ) (g : List ℕ) (basis : List 
   pub forms : AreFormsOf braid m g rights lefts spots
   pub own : AreLeastDerivatives braid m g derivs
 
+pub parts_of : (braid : BraidValue) (key : BlockKey) (basis : List (List ℕ)) (below : List (List (List ℕ))) (rights : List RowsValue) (spots : List Spot) (derivs lefts : List RowsValue) → IsUpperBlock braid key →
+    basis ≡ block_basis braid key.degree key.product → below ≡ map (lower_basis braid key.degree key.product) (up_to braid.letters) → AreFormsOf braid key.degree key.product rights lefts spots → AreLeastDerivatives braid key.degree key.product derivs →
+    AreParts braid key.degree key.product basis below rights spots derivs lefts
+parts_of braid key basis below rights spots derivs lefts block least lists forms own = record {
+  size = images_of_all braid key block;
+  most = omega (arith, block.most);
+  least = least;
+  lists = lists;
+  forms = forms;
+  own = own;
+}
+
 all_rows : (P : RowsValue → Type 0) (n : ℕ) (lists : List RowsValue) → length lists ≡ n → ((a : ℕ) → (1 ≤ a) × (a ≤ n) → P (rows_by lists a)) → AllByRecursion P lists
 all_rows P n lists size h =
     recursion_from_All P lists (λ k d less. subst P (row_entry lists k ∙ same k d less) (h (k + 1) (omega arith, omega arith)))
   where
-    same : (k : ℕ) (d : RowsValue) → k < length lists → get_or lists k none ≡ get_or lists k d
-    same k d less = other lists k none d less
-      where
-        other : (xs : List RowsValue) (i : ℕ) (x y : RowsValue) → i < length xs → get_or xs i x ≡ get_or xs i y
-        other [] i x y less = absurd (omega arith)
-        other (z ∷ xs) zero x y less = refl
-        other (z ∷ xs) (suc i) x y less = other xs i x y (omega arith)
+    same : (k : ℕ) (d : RowsValue) → k < length lists → get_or lists k no_rows ≡ get_or lists k d
+    same k d less = get_or_default lists k no_rows d less
 
 pub parts_shape : (braid : BraidValue) (key : BlockKey) (basis : List (List ℕ)) (below : List (List (List ℕ))) (rights : List RowsValue) (spots : List Spot) (derivs lefts : List RowsValue) →
     AreParts braid key.degree key.product basis below rights spots derivs lefts → IsShaped key basis below rights spots
@@ -208,13 +215,13 @@ parts_are_rule braid key basis below rights spots derivs lefts p =
     let fs : List (List Combination) = map (right_forms braid m g) (up_to braid.letters) in
     let right_are : map (forms_over basis) rights ≡ fs =
     ap (λ ws. map (forms_over ws) rights) p.least
-    ∙ map_at (forms_over (block_basis braid m g)) none [] rights fs (p.forms.right.letters ∙ sym (letter_count (right_forms braid m g) braid.letters))
+    ∙ map_at (forms_over (block_basis braid m g)) no_rows [] rights fs (p.forms.right.letters ∙ sym (letter_count (right_forms braid m g) braid.letters))
     (λ k less.
     let inside : k < braid.letters = omega (arith, less, p.forms.right.letters) in
     ap (forms_over (block_basis braid m g)) (sym (row_entry rights k)) ∙ (p.forms.right.each (k + 1) (omega arith, omega (arith, inside))).forms ∙ sym (entry_of (right_forms braid m g) braid.letters k inside)) in
     let left_are : map (forms_over basis) lefts ≡ map (left_forms braid m g) (up_to braid.letters) =
     ap (λ ws. map (forms_over ws) lefts) p.least
-    ∙ map_at (forms_over (block_basis braid m g)) none [] lefts (map (left_forms braid m g) (up_to braid.letters)) (p.forms.left.letters ∙ sym (letter_count (left_forms braid m g) braid.letters))
+    ∙ map_at (forms_over (block_basis braid m g)) no_rows [] lefts (map (left_forms braid m g) (up_to braid.letters)) (p.forms.left.letters ∙ sym (letter_count (left_forms braid m g) braid.letters))
     (λ k less.
     let inside : k < braid.letters = omega (arith, less, p.forms.left.letters) in
     ap (forms_over (block_basis braid m g)) (sym (row_entry lefts k)) ∙ (p.forms.left.each (k + 1) (omega arith, omega (arith, inside))).forms ∙ sym (entry_of (left_forms braid m g) braid.letters k inside)) in

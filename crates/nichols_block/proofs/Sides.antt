@@ -3,8 +3,8 @@ use Rattle.std.proofs.Common.{◌≡◌, ℕ, suc, ◌+◌, ◌-◌, ◌<◌, Bo
 use Rattle.std.specs.List.{filter, AllByRecursion, Contains}
 use Rattle.std.specs.declared.cmp.Ordering.TheVariants.{Less}
 use Rattle.std.proofs.lemmas.Bool.{cases_lt}
-use Rattle.std.proofs.lemmas.List.{map-append, length-map, get_or-map}
-use Rattle.std.proofs.Math.ListN.{get_or-append}
+use Rattle.std.proofs.lemmas.List.{map-append, length-map, get_or-map, get_or_append_left, get_or-append-add}
+use Rattle.std.proofs.Math.Seq.{get_or-append_seam}
 use Rattle.nichols_tensor.specs.Combination.{Combination}
 use Rattle.nichols_tensor.specs.Positions.{word_at}
 use Rattle.nichols_tensor.specs.WordOrder.{word_cmp, IsRising}
@@ -16,6 +16,7 @@ use Rattle.nichols_echelon.specs.Combination.{row_at}
 use Rattle.nichols_echelon.specs.Rows.{RowsValue}
 use Rattle.nichols_echelon.proofs.Shapes.{all_push}
 use Rattle.nichols_rows.specs.CombinationAt.{combination_at}
+use Rattle.nichols_value.proofs.KeptRows.{no_rows}
 use Rattle.nichols_block.specs.Rows.{AreRowsOf}
 use Rattle.nichols_block.specs.Pass.{IsSide, with_row}
 
@@ -27,21 +28,7 @@ filter_first t x xs e = ap (λ b. cond b (x ∷ filter t xs) (filter t xs)) e
 filter_other : {X : Type 0} (t : X → Bool) (x : X) (xs : List X) → t x ≡ false → filter t (x ∷ xs) ≡ filter t xs
 filter_other t x xs e = ap (λ b. cond b (x ∷ filter t xs) (filter t xs)) e
 
--- an entry of a list of two parts
-pub entry_of_front : {X : Type 0} (xs ys : List X) (i : ℕ) (d : X) → i < length xs → slice_index_or (xs ++ ys) i d ≡ slice_index_or xs i d
-entry_of_front xs ys i d less = get_or-append xs ys d i less
-
-pub entry_of_back : {X : Type 0} (xs ys : List X) (i : ℕ) (d : X) → slice_index_or (xs ++ ys) (length xs + i) d ≡ slice_index_or ys i d
-entry_of_back [] ys i d = ap (λ n. slice_index_or ys n d) (let e : 0 + i ≡ i = omega arith in e)
-entry_of_back (x ∷ xs) ys i d = ap (λ n. slice_index_or (x ∷ xs ++ ys) n d) (let e : suc (length xs) + i ≡ suc (length xs + i) = omega arith in e) ∙ entry_of_back xs ys i d
-
-pub entry_at_seam : {X : Type 0} (xs : List X) (y : X) (ys : List X) (d : X) → slice_index_or (xs ++ y ∷ ys) (length xs) d ≡ y
-entry_at_seam xs y ys d = ap (λ n. slice_index_or (xs ++ y ∷ ys) n d) (let e : length xs ≡ length xs + 0 = omega arith in e) ∙ entry_of_back xs (y ∷ ys) 0 d
-
 -- ---- how it begins, and ends
-
-abbrev no_rows : RowsValue
-no_rows = record { rows = []; begun = [] }
 
 pub side_start : (ws us : List (List ℕ)) (image : List ℕ → List ℕ) (form : List ℕ → Combination) (test : List ℕ → Bool) (all : List (List ℕ)) → filter test all ≡ map image us → IsSide ws us image form test all no_rows
 side_start ws us image form test all e = record {
@@ -97,7 +84,7 @@ side_place ws us image form test w rest rows passes s =
     let many : length rows.rows ≡ length s.done = rows_number ws (λ u. form (image u)) s.done rows s.rows in
     let size : length us ≡ length s.done + suc (length n.later) = ap length n.parts ∙ length-append s.done (n.next ∷ n.later) in (
       omega arith,
-      ap image (ap₂ (λ vs i. word_at vs i) n.parts many ∙ entry_at_seam s.done n.next n.later []) ∙ sym n.word,
+      ap image (ap₂ (λ vs i. word_at vs i) n.parts many ∙ get_or-append_seam s.done n.next n.later []) ∙ sym n.word,
     )
 
 -- its row is put behind the others
@@ -138,7 +125,7 @@ read_is_done us image test w rest done ahead i rising parts words inside less =
           let size : length us ≡ length done + length ahead = ap length parts ∙ length-append done ahead in
           let k : length done + (i - length done) ≡ i = omega arith in
           let behind : Contains ahead (word_at us i) =
-          subst (Contains ahead) (sym (entry_of_back done ahead (i - length done) []) ∙ ap₂ (λ vs n. word_at vs n) (sym parts) k) (word_at_is_in ahead (i - length done) (omega arith)) in
+          subst (Contains ahead) (sym (get_or-append-add done ahead (i - length done) []) ∙ ap₂ (λ vs n. word_at vs n) (sym parts) k) (word_at_is_in ahead (i - length done) (omega arith)) in
           let later : Contains (w ∷ rest) (image (word_at us i)) = (from_filter test (image (word_at us i)) (w ∷ rest) (subst (λ vs. Contains vs (image (word_at us i))) (sym words) (in_map image (word_at us i) ahead behind))).0 in
           elim (contains_cases w rest (image (word_at us i)) later) [
             | inl same ↦ absurd (less_is_other (image (word_at us i)) w less same)
@@ -174,7 +161,7 @@ side_read ws us image form test w rest rows cells rising below earlier s = recor
     one_form : (i : ℕ) → i < length s.done → combination_at ws (row_at rows.rows i) ≡ form (image (word_at us i))
     one_form i less =
         sym (get_or-map (combination_at ws) rows.rows i [] [] (omega (arith, many, less))) ∙ ap (λ fs. slice_index_or fs i []) s.rows.forms ∙ get_or-map (λ u. form (image u)) s.done i [] [] less
-        ∙ ap (λ u. form (image u)) (sym (entry_of_front s.done s.ahead i [] less) ∙ ap (λ vs. word_at vs i) (sym s.parts))
+        ∙ ap (λ u. form (image u)) (sym (get_or_append_left s.done s.ahead [] i less) ∙ ap (λ vs. word_at vs i) (sym s.parts))
 
     all_forms : (ds : List Cell) → AllBelow (length us) ds → AllByRecursion (λ (c : Cell). word_cmp (image (word_at us c.column)) w ≡ Less) ds → AllByRecursion (λ (c : Cell). combination_at ws (row_at rows.rows c.column) ≡ form (image (word_at us c.column))) ds
     all_forms [] b e = tt

@@ -2,7 +2,7 @@
 use Rattle.std.proofs.Common.{◌≡◌, ◌≢◌, ℕ, suc, ◌<◌, List, [], ◌∷◌, ◌++◌, length, map, get_or, sym, ◌∙◌, ap, subst, arith}
 use Rattle.std.specs.List.{AllByRecursion, Contains}
 use Rattle.nichols_field.specs.Field.{FieldValue, plus}
-use Rattle.nichols_tensor.specs.Combination.{AllElements, Combination, scaled, single}
+use Rattle.nichols_tensor.specs.Combination.{AllElements, Combination, scalar_multiple, single}
 use Rattle.nichols_tensor.specs.Positions.{word_at}
 use Rattle.nichols_tensor.specs.Words.{IsWordOver}
 use Rattle.nichols_tensor.proofs.Rising.{word_at_is_in}
@@ -20,7 +20,7 @@ use Rattle.nichols_value.specs.Block.{block_basis, lower_basis}
 use Rattle.nichols_value.specs.Kept.{AreCellsOf, IsSpot}
 use Rattle.nichols_value.specs.Rule.{PlainRule, below_in, by_letter, derivs_in, right_forms, right_in, rule_of}
 use Rattle.nichols_value.proofs.Blocks.{from_block_basis, lower_basis_is, lower_basis_rises}
-use Rattle.nichols_value.proofs.Readings.{basis_is, below_is, derivative, derivs_size, lean_of_whole, letter_count, letter_entry, right_is, right_size, right_word, word_form_is_normal}
+use Rattle.nichols_value.proofs.RuleEntries.{basis_is, below_is, derivative, derivs_size, lean_of_whole, letter_count, letter_entry, right_is, right_size, right_word, word_form_is_normal}
 use Rattle.nichols_block.specs.Rows.{AreSums, candidate_at, lower_words, summed_forms}
 use Rattle.nichols_block.proofs.DerivedSums.{right_sums, sums_of_others, sums_of_own}
 use Rattle.nichols_block.proofs.LowerBelow.{lower_below}
@@ -104,15 +104,15 @@ pub record AreBelowSpot (b : BraidValue) (m degree : ℕ) (g : List ℕ) (a : �
   pub below : own ≡ rule_of b m (product_before b s.letter g)
 
 right_sums_there : (b : BraidValue) (m degree : ℕ) (g : List ℕ) (a : ℕ) (s : Spot) (rule own : PlainRule) → AreBelowSpot b m degree g a s rule own → (k : FieldValue) (by c : ℕ) (cells : List Cell) (values : List ℕ) →
-    k ≡ b.field → by ≡ scalar b a s.letter → c ≡ act b a s.letter → AreSums k rule.basis values (scaled k by (summed_forms k (right_in rule c) cells)) → AreSums b.field (lower_basis b degree g a) values (right_sums b m g a s.letter cells)
+    k ≡ b.field → by ≡ scalar b a s.letter → c ≡ act b a s.letter → AreSums k rule.basis values (scalar_multiple k by (summed_forms k (right_in rule c) cells)) → AreSums b.field (lower_basis b degree g a) values (right_sums b m g a s.letter cells)
 right_sums_there b m degree g a s rule own h k by c cells values k_is by_is c_is sums =
     let la : IsLetter b s.letter = spot_letter b degree g s h.spot in
     let lc : IsLetter b (act b a s.letter) = h.braid.rack.closed a s.letter h.letter la in
     let forms : right_in rule c ≡ right_forms b m (product_before b a g) (act b a s.letter) = ap (right_in rule) c_is ∙ right_is b m (product_before b a g) rule (lean_of_whole b m (product_before b a g) rule h.above) (act b a s.letter) lc in
-    subst (λ (fs : List Combination). AreSums b.field (lower_basis b degree g a) values (scaled b.field (scalar b a s.letter) (summed_forms b.field fs cells))) forms
-    (subst (λ (n : ℕ). AreSums b.field (lower_basis b degree g a) values (scaled b.field n (summed_forms b.field (right_in rule c) cells))) by_is
-    (subst (λ (ws : List (List ℕ)). AreSums b.field ws values (scaled b.field by (summed_forms b.field (right_in rule c) cells))) (rule_words b m degree g rule a h.next h.above)
-    (subst (λ (f : FieldValue). AreSums f rule.basis values (scaled f by (summed_forms f (right_in rule c) cells))) k_is sums)))
+    subst (λ (fs : List Combination). AreSums b.field (lower_basis b degree g a) values (scalar_multiple b.field (scalar b a s.letter) (summed_forms b.field fs cells))) forms
+    (subst (λ (n : ℕ). AreSums b.field (lower_basis b degree g a) values (scalar_multiple b.field n (summed_forms b.field (right_in rule c) cells))) by_is
+    (subst (λ (ws : List (List ℕ)). AreSums b.field ws values (scalar_multiple b.field by (summed_forms b.field (right_in rule c) cells))) (rule_words b m degree g rule a h.next h.above)
+    (subst (λ (f : FieldValue). AreSums f rule.basis values (scalar_multiple f by (summed_forms f (right_in rule c) cells))) k_is sums)))
 
 -- the derivative at the spot, from that of the word below with its letter behind
 derivative_at_spot : (b : BraidValue) (m degree : ℕ) (g : List ℕ) (a : ℕ) (s : Spot) (rule own : PlainRule) → AreBelowSpot b m degree g a s rule own → (values : List ℕ) →
@@ -123,7 +123,7 @@ derivative_at_spot b m degree g a s rule own h values sums =
     (subst (λ (d : ℕ). AreSums b.field (lower_basis b degree g a) values (derived_form is_killed b d (word_at (block_basis b m (product_before b s.letter g)) s.place ++ s.letter ∷ []) a)) h.next sums)
 
 pub others_at_spot : (b : BraidValue) (m degree : ℕ) (g : List ℕ) (a : ℕ) (s : Spot) (rule own : PlainRule) → AreBelowSpot b m degree g a s rule own → (k : FieldValue) (by c : ℕ) (cells : List Cell) (values : List ℕ) →
-    k ≡ b.field → by ≡ scalar b a s.letter → c ≡ act b a s.letter → AreCellsOf (below_in own a) (get_or (derivs_in own a) s.place []) cells → AreSums k rule.basis values (scaled k by (summed_forms k (right_in rule c) cells)) → a ≢ s.letter →
+    k ≡ b.field → by ≡ scalar b a s.letter → c ≡ act b a s.letter → AreCellsOf (below_in own a) (get_or (derivs_in own a) s.place []) cells → AreSums k rule.basis values (scalar_multiple k by (summed_forms k (right_in rule c) cells)) → a ≢ s.letter →
     AreSums b.field (lower_basis b degree g a) values (derived_form is_killed b degree (candidate_at (lower_words b degree g) s) a)
 others_at_spot b m degree g a s rule own h k by c cells values k_is by_is c_is are sums other =
     derivative_at_spot b m degree g a s rule own h values
@@ -131,7 +131,7 @@ others_at_spot b m degree g a s rule own h k by c cells values k_is by_is c_is a
     (derivative_cells b m degree g s own a cells h.next h.spot h.below h.letter are) (lower_basis b degree g a) values (right_sums_there b m degree g a s rule own h k by c cells values k_is by_is c_is sums) other)
 
 pub own_at_spot : (b : BraidValue) (m degree : ℕ) (g : List ℕ) (a : ℕ) (s : Spot) (rule own : PlainRule) → AreBelowSpot b m degree g a s rule own → (k : FieldValue) (by c : ℕ) (cells : List Cell) (values after : List ℕ) →
-    k ≡ b.field → by ≡ scalar b a s.letter → c ≡ act b a s.letter → AreCellsOf (below_in own a) (get_or (derivs_in own a) s.place []) cells → AreSums k rule.basis values (scaled k by (summed_forms k (right_in rule c) cells)) → a ≡ s.letter →
+    k ≡ b.field → by ≡ scalar b a s.letter → c ≡ act b a s.letter → AreCellsOf (below_in own a) (get_or (derivs_in own a) s.place []) cells → AreSums k rule.basis values (scalar_multiple k by (summed_forms k (right_in rule c) cells)) → a ≡ s.letter →
     sum_at k after s.place ≡ plus k (sum_at k values s.place) 1 → ((other : ℕ) → other ≢ s.place → sum_at k after other ≡ sum_at k values other) →
     AreSums b.field (lower_basis b degree g a) after (derived_form is_killed b degree (candidate_at (lower_words b degree g) s) a)
 own_at_spot b m degree g a s rule own h k by c cells values after k_is by_is c_is are sums same put kept =

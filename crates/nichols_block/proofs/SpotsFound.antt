@@ -1,13 +1,10 @@
 -- Where a new word stands below.
-use Rattle.std.proofs.Common.{◌≡◌, ℕ, suc, ◌-◌, ◌<◌, ◌≤◌, List, [], ◌∷◌, ◌++◌, length, take, drop, sym, ◌∙◌, ap, ap₂, subst, arith, Ok, Err}
+use Rattle.std.proofs.Common.{◌≡◌, ℕ, suc, ◌-◌, ◌<◌, ◌≤◌, List, [], ◌∷◌, ◌++◌, length, take, drop, sym, ◌∙◌, ap, ap₂, subst, arith}
 use Rattle.std.specs.Prelude.{slice_index}
 use Rattle.std.specs.List.{Contains}
-use Rattle.std.specs.List.Sorted.{IsBinarySearchResult, IsSearchInRange}
-use Rattle.std.proofs.lemmas.List.{map-id}
 use Rattle.std.proofs.Math.Seq.{get_or-append_seam}
 use Rattle.std.proofs.lemmas.List.{take-append-le, take_all}
 use Rattle.nichols_tensor.specs.Positions.{word_at}
-use Rattle.nichols_tensor.specs.WordOrder.{IsRising, word_cmp}
 use Rattle.nichols_tensor.proofs.Entries.{from_filter}
 use Rattle.nichols_tensor.proofs.Pushed.{pushed_length}
 use Rattle.nichols_braid.specs.Braid.{BraidValue, IsBraid, IsLetter}
@@ -19,10 +16,9 @@ use Rattle.nichols_braid.proofs.NewWords.{is_candidate_list}
 use Rattle.nichols_value.specs.Block.{lower_basis}
 use Rattle.nichols_value.specs.Kept.{IsSpot}
 use Rattle.nichols_value.proofs.Blocks.{from_block_candidates, product_is}
-use Rattle.nichols_value.proofs.Readings.{letter_count}
+use Rattle.nichols_value.proofs.RuleEntries.{letter_count}
 use Rattle.nichols_block.specs.Rows.{candidate_at, lower_words}
 use Rattle.nichols_block.specs.Words.{block_new_words}
-use Rattle.nichols_block.proofs.Searching.{search_says}
 use Rattle.nichols_block.proofs.SpotsBelow.{words_at_letter}
 
 -- a new word is a least word of a lower block with a letter behind
@@ -64,16 +60,11 @@ some_letters braid degree g w h = let size : length w ≡ suc (length h.front) =
 pub letter_at : (braid : BraidValue) (degree : ℕ) (g w : List ℕ) → IsFollowed braid degree g w → (k b : ℕ) → k ≡ length w - 1 → b ≡ slice_index w k → IsLetter braid b
 letter_at braid degree g w h k b e at = subst (IsLetter braid) (sym (at ∙ last_at braid degree g w h k e)) h.letter
 
--- ---- what a search says
+-- ---- where it stands
 
-found_least : (braid : BraidValue) (degree : ℕ) (g w : List ℕ) → IsFollowed braid degree g w → (k b : ℕ) (front : List ℕ) (ws : List (List ℕ)) → k ≡ length w - 1 → b ≡ slice_index w k → front ≡ take k w → ws ≡ lower_basis braid degree g b → Contains ws front
+pub found_least : (braid : BraidValue) (degree : ℕ) (g w : List ℕ) → IsFollowed braid degree g w → (k b : ℕ) (front : List ℕ) (ws : List (List ℕ)) → k ≡ length w - 1 → b ≡ slice_index w k → front ≡ take k w → ws ≡ lower_basis braid degree g b → Contains ws front
 found_least braid degree g w h k b front ws k_is b_is front_is ws_is =
     subst (λ vs. Contains vs front) (sym (ws_is ∙ ap (lower_basis braid degree g) (b_is ∙ last_at braid degree g w h k k_is))) (subst (Contains (lower_basis braid degree g h.last)) (sym (front_is ∙ front_at braid degree g w h k k_is)) h.least)
-
-pub never_missed : (braid : BraidValue) (degree : ℕ) (g w : List ℕ) → IsFollowed braid degree g w → (k b : ℕ) (front : List ℕ) (ws : List (List ℕ)) → k ≡ length w - 1 → b ≡ slice_index w k → front ≡ take k w → ws ≡ lower_basis braid degree g b → IsRising ws →
-    (i : ℕ) → IsSearchInRange (Err i) (length ws) → IsBinarySearchResult (λ (v : List ℕ). word_cmp v front) ws (Err i) → ⊥
-never_missed braid degree g w h k b front ws k_is b_is front_is ws_is rising i within found =
-    search_says (λ (v : List ℕ). v) ws front (Err i) (subst IsRising (sym (map-id ws)) rising) within found [] (subst (λ ys. Contains ys front) (sym (map-id ws)) (found_least braid degree g w h k b front ws k_is b_is front_is ws_is))
 
 -- the place found is a spot
 pub spot_inside : (braid : BraidValue) (degree : ℕ) (g w : List ℕ) → IsFollowed braid degree g w → (k b : ℕ) (ws : List (List ℕ)) → k ≡ length w - 1 → b ≡ slice_index w k → ws ≡ lower_basis braid degree g b →
@@ -84,10 +75,9 @@ spot_inside braid degree g w h k b ws k_is b_is ws_is i less =
     (omega (arith, lb.0), omega (arith, lb.0, lb.1, count), subst (λ (vs : List (List ℕ)). i < length vs) (ws_is ∙ sym (words_at_letter braid degree g b lb)) less)
 
 -- and the word at the spot is the new word
-pub spot_is_word : (braid : BraidValue) (degree : ℕ) (g w : List ℕ) → IsFollowed braid degree g w → (k b : ℕ) (front : List ℕ) (ws : List (List ℕ)) → k ≡ length w - 1 → b ≡ slice_index w k → front ≡ take k w → ws ≡ lower_basis braid degree g b → IsRising ws →
-    (i : ℕ) → IsSearchInRange (Ok i) (length ws) → IsBinarySearchResult (λ (v : List ℕ). word_cmp v front) ws (Ok i) → candidate_at (lower_words braid degree g) (record { letter = b; place = i }) ≡ w
-spot_is_word braid degree g w h k b front ws k_is b_is front_is ws_is rising i within found =
+pub spot_is_word : (braid : BraidValue) (degree : ℕ) (g w : List ℕ) → IsFollowed braid degree g w → (k b : ℕ) (front : List ℕ) (ws : List (List ℕ)) → k ≡ length w - 1 → b ≡ slice_index w k → front ≡ take k w → ws ≡ lower_basis braid degree g b →
+    (i : ℕ) → word_at ws i ≡ front → candidate_at (lower_words braid degree g) (record { letter = b; place = i }) ≡ w
+spot_is_word braid degree g w h k b front ws k_is b_is front_is ws_is i here =
     let lb : IsLetter braid b = letter_at braid degree g w h k b k_is b_is in
-    let here : word_at ws i ≡ front = search_says (λ (v : List ℕ). v) ws front (Ok i) (subst IsRising (sym (map-id ws)) rising) within found [] in
     ap (λ (vs : List (List ℕ)). word_at vs i ++ b ∷ []) (words_at_letter braid degree g b lb ∙ sym ws_is)
     ∙ ap₂ (λ (v : List ℕ) (c : ℕ). v ++ c ∷ []) (here ∙ front_is ∙ front_at braid degree g w h k k_is) (b_is ∙ last_at braid degree g w h k k_is) ∙ sym h.parts

@@ -1,13 +1,11 @@
 -- The degrees of an algebra from 0 on, as values of their blocks.
-use Rattle.std.specs.Prelude.{◌≡◌, ◌≤◌, ℕ, suc, Bool, ◌&&◌, List, [], ◌∷◌, map, length, nat_eq}
+use Rattle.std.specs.Prelude.{◌≡◌, ◌≤◌, ℕ, suc, List, [], ◌∷◌, map, length}
 use Rattle.nichols_braid.specs.declared.TheConstants.{MOST_DEGREES}
 use Rattle.nichols_braid.specs.Braid.{BraidValue}
-use Rattle.nichols_braid.specs.Product.{product_before}
-use Rattle.nichols_braid.specs.Products.{leading, products}
+use Rattle.nichols_braid.specs.Products.{products}
 use Rattle.nichols_value.specs.declared.shared.Shared.{Shared}
 use Rattle.nichols_value.specs.declared.value.BlockValue.{BlockValue}
 use Rattle.nichols_value.specs.declared.value.BlockValue.TheVariants.{Rule, Over, Void, Starved}
-use Rattle.nichols_value.specs.Block.{has_block}
 use Rattle.nichols_value.specs.Rule.{IsRuleOf, PlainRule, rule_of}
 use Rattle.nichols_value.specs.Worth.{worth}
 use Rattle.nichols_block.specs.declared.levels.Degree.{Degree}
@@ -43,8 +41,3 @@ pub record AreLevels (braid : BraidValue) (last : ℕ) (degrees : List Degree) :
   pub count : length degrees ≡ suc last
   pub most : last ≤ MOST_DEGREES
   pub each : AreDegrees braid last 0 degrees
-
--- whether a letter is one of those of the lower blocks of a block of product g in the degree after m: a leading letter for which
--- the product before it is one of degree m
-abbrev pub is_lower_letter : BraidValue → ℕ → List ℕ → ℕ → Bool
-is_lower_letter braid m g a = nat_eq (leading braid a) a && has_block braid m (product_before braid a g)

@@ -1,7 +1,10 @@
 -- what public contracts cite
 pub mod Lower
 pub mod Levels
+pub mod Making
 -- what the crate's own functions cite
+pub mod Below
+pub mod Allowed
 pub mod Words
 pub mod Gathered
 pub mod Rows
@@ -9,4 +12,5 @@ pub mod NewRows
 pub mod Places
 pub mod Forms
 pub mod Pass
-pub mod Making
+-- what its tests cite
+pub mod Tested

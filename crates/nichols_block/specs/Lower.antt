@@ -1,20 +1,19 @@
 -- The values of the lower blocks of a block.
-use Rattle.std.specs.Prelude.{◌≡◌, ◌≤◌, ◌-◌, ℕ, List, length, map}
+use Rattle.std.specs.Prelude.{◌≡◌, ◌≤◌, ◌-◌, ℕ, List, map}
 use Rattle.std.specs.List.{AllByRecursion, Contains}
-use Rattle.nichols_braid.specs.declared.TheConstants.{MOST_DEGREES, MOST_ROWS}
-use Rattle.nichols_braid.specs.Braid.{BraidValue, IsLetter}
+use Rattle.nichols_braid.specs.declared.TheConstants.{MOST_DEGREES}
+use Rattle.nichols_braid.specs.Braid.{BraidValue}
 use Rattle.nichols_braid.specs.Product.{product_before}
 use Rattle.nichols_braid.specs.Products.{products}
 use Rattle.nichols_value.specs.declared.key.BlockKey.{BlockKey}
 use Rattle.nichols_value.specs.declared.shared.LowerValue.{LowerValue}
-use Rattle.nichols_value.specs.declared.value.BlockValue.{BlockValue}
 use Rattle.nichols_value.specs.declared.value.BlockValue.TheVariants.{Rule}
-use Rattle.nichols_value.specs.Block.{lower_basis, lower_letters}
+use Rattle.nichols_value.specs.Block.{lower_letters}
 use Rattle.nichols_value.specs.Rule.{rule_of}
 use Rattle.nichols_value.specs.Value.{IsRight}
 use Rattle.nichols_value.specs.Worth.{worth}
 
--- the block of degree 1 to 60 has some word
+-- the block of degree 1 to `MOST_DEGREES` has some word
 pub record IsUpperBlock (braid : BraidValue) (key : BlockKey) : Type 0 where
   pub some : 1 ≤ key.degree
   pub most : key.degree ≤ MOST_DEGREES
@@ -29,12 +28,3 @@ pub record AreLowerValues (braid : BraidValue) (limit : ℕ) (key : BlockKey) (l
 pub record AreLowerRules (braid : BraidValue) (key : BlockKey) (lower : List LowerValue) : Type 0 where
   pub letters : map (λ l. l.letter) lower ≡ lower_letters braid key.degree key.product
   pub rules : AllByRecursion (λ (l : LowerValue). worth l.value ≡ Rule (rule_of braid (key.degree - 1) (product_before braid l.letter key.product))) lower
-
--- the lower blocks have no more least words than a block may have candidates
-abbrev pub AreFewBelow : BraidValue → BlockKey → Type 0
-AreFewBelow braid key = (b : ℕ) → IsLetter braid b → length (lower_basis braid key.degree key.product b) ≤ MOST_ROWS
-
--- the value is no rule
-abbrev pub IsNoRule : BlockValue → Type 0
-IsNoRule (Rule r) = ⊥
-IsNoRule _ = Unit {0}

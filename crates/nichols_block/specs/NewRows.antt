@@ -14,18 +14,18 @@ columns_to braid m g zero = 0
 columns_to braid m g (suc a) = columns_to braid m g a + length (lower_basis braid m g (suc a))
 
 -- cells behind so many columns
-abbrev pub shifted : ℕ → List Cell → List Cell
-shifted offset cells = map (λ c. record { column = offset + c.column; coefficient = c.coefficient }) cells
+abbrev pub cells_behind : ℕ → List Cell → List Cell
+cells_behind offset cells = map (λ c. record { column = offset + c.column; coefficient = c.coefficient }) cells
 
 -- the k-th rows by the letters up to a, one behind the other
-unfoldable pub joined : BraidValue → ℕ → List ℕ → List RowsValue → ℕ → ℕ → List Cell
-joined braid m g lists k zero = []
-joined braid m g lists k (suc a) = joined braid m g lists k a ++ shifted (columns_to braid m g a) (slice_index_or (rows_by lists (suc a)).rows k [])
+unfoldable pub joined_row : BraidValue → ℕ → List ℕ → List RowsValue → ℕ → ℕ → List Cell
+joined_row braid m g lists k zero = []
+joined_row braid m g lists k (suc a) = joined_row braid m g lists k a ++ cells_behind (columns_to braid m g a) (slice_index_or (rows_by lists (suc a)).rows k [])
 
 -- one row for each new word, from the rows by letter
 pub record AreNewRows (braid : BraidValue) (m : ℕ) (g : List ℕ) (lists : List RowsValue) (rows : List (List Cell)) : Type 0 where
   pub count : length rows ≡ length (block_new_words braid m g)
-  pub each : (k : ℕ) → k < length rows → row_at rows k ≡ joined braid m g lists k braid.letters
+  pub each : (k : ℕ) → k < length rows → row_at rows k ≡ joined_row braid m g lists k braid.letters
 
 -- by letter, the number of columns before it; and all columns have numbers of 32 bits
 pub record AreOffsets (braid : BraidValue) (m : ℕ) (g : List ℕ) (offsets : List ℕ) : Type 0 where

@@ -11,7 +11,7 @@ use Rattle.nichols_braid.specs.Kernel.{is_killed}
 use Rattle.nichols_braid.specs.Least.{is_least, normal_form}
 use Rattle.nichols_braid.specs.Product.{product_of}
 use Rattle.nichols_echelon.specs.Cells.{AllElements, Cell, IsRow, entry}
-use Rattle.nichols_echelon.specs.Combination.{combined}
+use Rattle.nichols_echelon.specs.Combination.{combined_entry}
 use Rattle.nichols_echelon.specs.Rows.{RowsValue}
 use Rattle.nichols_echelon.specs.declared.rows.Place.{Place}
 use Rattle.nichols_echelon.specs.declared.rows.Place.TheVariants.{Independent, Depends}
@@ -43,7 +43,7 @@ with_row_of lists a cells = slice_set lists (a - 1) (with_row (rows_by lists a) 
 pub record IsRowSum (field : FieldValue) (rows : List (List Cell)) (cells : List Cell) (row : List Cell) : Type 0 where
   pub shape : IsRow row
   pub elements : AllElements field row
-  pub entries : (column : ℕ) → entry field row column ≡ combined field rows cells column
+  pub entries : (column : ℕ) → entry field row column ≡ combined_entry field rows cells column
 
 -- such a row was put behind others
 pub record IsSumPushed (field : FieldValue) (rows : List (List Cell)) (cells : List Cell) (before after : RowsValue) : Type 0 where
@@ -60,13 +60,13 @@ pub record IsSumPushedAt (field : FieldValue) (rows : List (List Cell)) (cells :
 -- ---- new words
 
 -- the cells of a row with other columns
-abbrev pub turned : List ℕ → List Cell → List Cell
-turned columns cells = map (λ c. record { column = slice_index columns c.column; coefficient = c.coefficient }) cells
+abbrev pub cells_at_columns : List ℕ → List Cell → List Cell
+cells_at_columns columns cells = map (λ c. record { column = slice_index columns c.column; coefficient = c.coefficient }) cells
 
 -- the cells of the normal form of a new word: of its own place among the least words, or of those that it depends on
 abbrev pub new_cells : List ℕ → ℕ → Place → List Cell
 new_cells columns least Independent = record { column = least; coefficient = 1 } ∷ []
-new_cells columns least (Depends cells) = turned columns cells
+new_cells columns least (Depends cells) = cells_at_columns columns cells
 
 -- how many least words there are, with a new word more
 abbrev pub least_more : ℕ → Place → ℕ

@@ -3,7 +3,7 @@ use Rattle.std.specs.Prelude.{◌≡◌, ◌<◌, ℕ, ◌-◌, List, [], ◌∷
 use Rattle.std.specs.List.{AllByRecursion}
 use denote.Bor.{Bor}
 use Rattle.nichols_field.specs.Field.{FieldValue}
-use Rattle.nichols_tensor.specs.Combination.{Combination, scaled, value_at}
+use Rattle.nichols_tensor.specs.Combination.{Combination, scalar_multiple, value_at}
 use Rattle.nichols_tensor.specs.Positions.{word_at}
 use Rattle.nichols_tensor.specs.Words.{up_to}
 use Rattle.nichols_braid.specs.Braid.{BraidValue, IsLetter}
@@ -74,7 +74,7 @@ AreRowsAt braid m g spots a rows = AreRowsOf (lower_basis braid m g a) (map (λ 
 -- the forms at the columns of cells, each times the coefficient of its cell
 unfoldable pub summed_forms : FieldValue → List Combination → List Cell → Combination
 summed_forms field forms [] = []
-summed_forms field forms (c ∷ cells) = scaled field c.coefficient (slice_index_or forms c.column []) ++ summed_forms field forms cells
+summed_forms field forms (c ∷ cells) = scalar_multiple field c.coefficient (slice_index_or forms c.column []) ++ summed_forms field forms cells
 
 -- the sums are the values of a combination at these words, by their places, and 0 behind
 pub record AreSums (field : FieldValue) (ws : List (List ℕ)) (values : List ℕ) (f : Combination) : Type 0 where

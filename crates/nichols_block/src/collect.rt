@@ -6,7 +6,7 @@ ghost use Rattle.nichols_braid.specs.Product.{product_before};
 ghost use Rattle.nichols_value.specs.declared.value.BlockValue.TheVariants.{Rule};
 ghost use Rattle.nichols_value.specs.Rule.{rule_of};
 ghost use Rattle.nichols_value.specs.Worth.{worth};
-ghost use Rattle.nichols_block.specs.Levels.{is_lower_letter};
+ghost use Rattle.nichols_block.specs.Below.{is_lower_letter};
 ghost use Rattle.nichols_block.specs.Lower.{AreLowerRules, IsUpperBlock};
 
 use crate::levels::Levels;

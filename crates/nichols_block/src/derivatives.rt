@@ -1,9 +1,9 @@
 //! Derivatives of the new words of a block, in normal form over the lower blocks.
 
-ghost use Rattle.std.specs.Prelude.{◌≡◌, ◌≤◌, ◌-◌, [], IfOk, OnOk, length, replicate};
+ghost use Rattle.std.specs.Prelude.{◌≡◌, ◌≤◌, ◌-◌, [], IfOk, OnOk, length};
 ghost use Rattle.std.specs.List.{AllByRecursion, Contains};
 ghost use Rattle.nichols_field.specs.Field.{IsElement};
-ghost use Rattle.nichols_tensor.specs.Combination.{scaled};
+ghost use Rattle.nichols_tensor.specs.Combination.{scalar_multiple};
 ghost use Rattle.nichols_tensor.specs.Combination.{AllElements as AllTermsElements};
 ghost use Rattle.nichols_tensor.specs.WordOrder.{IsRising};
 ghost use Rattle.nichols_braid.specs.Braid.{IsLetter};
@@ -19,16 +19,15 @@ ghost use Rattle.nichols_block.specs.Lower.{AreLowerRules, IsUpperBlock};
 ghost use Rattle.nichols_block.specs.Rows.{AreNewDerivatives, AreRowsAt, AreRulesBelow, AreSpotsOf, AreSums, HasNewRow, IsRuleBelow, candidate_at, lower_words, summed_forms};
 ghost use Rattle.nichols_block.specs.Words.{block_new_words};
 
-use crate::lower::{rules_below, words_below};
+use crate::MOST_PLACES;
+use crate::empty::empty_rows;
+use crate::lower::{place_in, rules_below, words_below};
 use nichols_braid::Braid;
 use nichols_echelon::{Cell, Rows, Sums};
 use nichols_field::Field;
 use nichols_value::{BlockKey, BlockRule, LowerValue, Spot};
 use nichols_words::Word;
 use std::alloc::{AllocError, Global};
-
-/// The greatest number of places.
-const MOST: usize = 0xFFFF_FFFF;
 
 /// Where a new word `u b` stands below: the letter b, and the place of u among the words of the lower block by b.
 fn spot_of(
@@ -47,10 +46,8 @@ fn spot_of(
     let k = word.len() - 1;
     let letter = word.letter(k);
     let front = word.prefix(k);
-    let Ok(place) = words_below(braid, key, lower, letter).binary_search(&front) else {
-        unreachable!()
-    };
-    if place > MOST {
+    let place = place_in(words_below(braid, key, lower, letter), &front);
+    if place > MOST_PLACES {
         return Err(AllocError);
     }
     Ok(Spot {
@@ -105,7 +102,7 @@ fn add_right_rows(field: Field, by: u32, cells: &[Cell], rule: &BlockRule, c: u8
     requires forms { AllByRecursion (AllTermsElements field) (right_in rule.now c) }
     requires zero { IsZero field sums.old }
     requires width { length rule.now.basis ≤ length sums.old }
-    ensures sums { AreSums field rule.now.basis sums.new (scaled field by (summed_forms field (right_in rule.now c) cells.now)) }
+    ensures sums { AreSums field rule.now.basis sums.new (scalar_multiple field by (summed_forms field (right_in rule.now c) cells.now)) }
     ensures width { length sums.new ≡ length sums.old }
 {
     let _modulus = field.modulus();
@@ -200,24 +197,13 @@ fn rows_over(
     ensures zero { OnOk result (IsZero braid.now.field sums.new) }
 {
     let places = rule.basis().len();
-    if places > MOST {
+    if places > MOST_PLACES {
         return Err(AllocError);
     }
     sums.room(alloc, braid.field(), places)?;
     let mut rows = Rows::new(alloc);
     for spot in spots {
         push_derivative(braid, key, rules, rule, a, *spot, sums, &mut rows)?;
-    }
-    Ok(rows)
-}
-
-/// So many rows with no cell.
-fn empty_rows(alloc: Global, count: usize) -> Result<Rows, AllocError>
-    ensures { IfOk result (λ r. r ≡ record { rows = replicate count []; begun = [] }) }
-{
-    let mut rows = Rows::new(alloc);
-    for _k in 0..count {
-        rows.close()?;
     }
     Ok(rows)
 }

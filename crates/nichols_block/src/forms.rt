@@ -1,10 +1,7 @@
 //! The normal forms of the words of a block with a letter behind or in front.
 
-ghost use Rattle.std.specs.Prelude.{◌≡◌, ◌<◌, ◌≤◌, ◌+◌, ◌-◌, ◌++◌, ◌∷◌, ℕ, Some, None, [], IfOk, OnOk, MatchOption, drop, false, length, map, replicate, slice_index, slice_index_or, take, true};
-ghost use Rattle.std.specs.List.{Contains};
+ghost use Rattle.std.specs.Prelude.{◌≡◌, ◌<◌, ◌≤◌, ◌+◌, ◌-◌, ◌++◌, ◌∷◌, ℕ, Some, None, [], IfOk, OnOk, MatchOption, drop, false, length, map, slice_index, slice_index_or, take, true};
 ghost use Rattle.nichols_tensor.specs.Combination.{single};
-ghost use Rattle.nichols_tensor.specs.Positions.{word_at};
-ghost use Rattle.nichols_tensor.specs.WordOrder.{IsRising};
 ghost use Rattle.nichols_braid.specs.Braid.{IsLetter};
 ghost use Rattle.nichols_braid.specs.Kernel.{is_killed};
 ghost use Rattle.nichols_braid.specs.Least.{is_least, normal_form};
@@ -23,7 +20,9 @@ ghost use Rattle.nichols_block.specs.Places.{ArePlacesOf};
 ghost use Rattle.nichols_block.specs.Rows.{rows_by};
 ghost use Rattle.nichols_block.specs.Words.{AreListed, but_last};
 
-use crate::lower::{rules_below, sent_to};
+use crate::MOST_PLACES;
+use crate::empty::empty_rows_by_letter;
+use crate::lower::{place_in, rules_below, sent_to};
 use crate::words::Listed;
 use nichols_braid::Braid;
 use nichols_echelon::{Cell, Place, Rows, Sums};
@@ -31,9 +30,6 @@ use nichols_field::Field;
 use nichols_value::{BlockKey, BlockRule, LowerValue, Spot};
 use nichols_words::Word;
 use std::alloc::{AllocError, Global};
-
-/// The greatest number of rows of a letter, and of least words.
-const MOST: usize = 0xFFFF_FFFF;
 
 /// The rows of the normal forms of a block, by letter from letter 1 on, and where those of its relations stand.
 #[derive(Drop)]
@@ -127,7 +123,7 @@ fn push_spot(spots: &mut Vec<Spot>, letter: u8, rows: &[Rows]) -> Result<(), All
     ensures { OnOk result (spots.new.items ≡ spots.old.items ++ record { letter = letter; place = length (rows_by rows.now letter).rows } ∷ []) }
 {
     let place = rows[usize::from(letter) - 1].len();
-    if place > MOST {
+    if place > MOST_PLACES {
         return Err(AllocError);
     }
     spots.push(Spot {
@@ -218,19 +214,6 @@ fn push_new(
     push_row_at(&mut forms.left, a, numbers.cells.as_slice())
 }
 
-/// The place of a word in a list that rises.
-fn place_of(words: &[Word], word: &Word) -> usize
-    requires rising { IsRising words.now }
-    requires there { Contains words.now word.now }
-    ensures below { result < length words.now }
-    ensures place { word_at words.now result ≡ word.now }
-{
-    match words.binary_search(word) {
-        Ok(k) => k,
-        Err(_) => unreachable!(),
-    }
-}
-
 /// A word without its first and its last letter.
 fn middle(word: &Word) -> Word
     requires { 2 ≤ length word.now }
@@ -269,7 +252,7 @@ fn form_without_first<'t>(
     };
     let b = word.letter(word.len() - 1);
     let inner = middle(word);
-    rule.right_row(b, place_of(rule.below(b), &inner))
+    rule.right_row(b, place_in(rule.below(b), &inner))
 }
 
 /// The cells of the normal form of a word of the block without its last letter, where that isn't least, and the word without its
@@ -295,19 +278,7 @@ fn form_without_last<'t>(
     let a = word.letter(0);
     let inner = middle(word);
     let c = sent_to(braid, rule.key(), a);
-    rule.left_row(a, place_of(rule.below(c), &inner))
-}
-
-/// No rows, once for each letter.
-#[tactic(auto, using(crate::proofs::FirstRule::replicate_more))]
-fn no_rows(alloc: Global, letters: u8) -> Result<Vec<Rows>, AllocError>
-    ensures { IfOk result (λ r. r.items ≡ replicate letters (record { rows = []; begun = [] })) }
-{
-    let mut lists = Vec::new(alloc);
-    for _ in 0..letters {
-        lists.push(Rows::new(alloc))?;
-    }
-    Ok(lists)
+    rule.left_row(a, place_in(rule.below(c), &inner))
 }
 
 /// Meets the k-th word: its row goes behind those of its last letter, if the word without it is least, and behind those of its first
@@ -397,7 +368,7 @@ pub(crate) fn block_forms(
     requires basis { basis.now ≡ block_basis braid.now key.now.degree key.now.product }
     ensures { IfOk result (λ r. AreFormsOf braid.now key.now.degree key.now.product r.right.items r.left.items r.spots.items) }
 {
-    if basis.len() > MOST {
+    if basis.len() > MOST_PLACES {
         return Err(AllocError);
     }
     let field = braid.field();
@@ -409,8 +380,8 @@ pub(crate) fn block_forms(
         cells: Vec::new(alloc),
     };
     let mut forms = BlockForms {
-        right: no_rows(alloc, braid.letters())?,
-        left: no_rows(alloc, braid.letters())?,
+        right: empty_rows_by_letter(alloc, braid.letters(), 0)?,
+        left: empty_rows_by_letter(alloc, braid.letters(), 0)?,
         spots: Vec::new(alloc),
     };
     for k in 0..listed.len() {

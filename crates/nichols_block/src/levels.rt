@@ -25,7 +25,7 @@ struct Degree {
     values: Vec<Shared>,
 }
 
-/// A braid with the rules of the blocks of degree 0, 1 and so on up to a last one, which is at most 60.
+/// A braid with the rules of the blocks of degree 0, 1 and so on up to a last one, which is at most `MOST_DEGREES`.
 #[derive(Drop)]
 pub struct Levels {
     braid: Braid,
@@ -95,7 +95,7 @@ impl Levels {
         Ok(())
     }
 
-    /// Puts the next degree, which is at most 60, on top: its products, and the rule of the block of each. On an error the levels
+    /// Puts the next degree, which is at most `MOST_DEGREES`, on top: its products, and the rule of the block of each. On an error the levels
     /// are as before, and what was to be put is gone; where there is room there is no error. The rules of the degree before let go
     /// what served this one.
     pub fn push(&mut self, next: Products, values: Vec<Shared>) -> Result<(), AllocError>

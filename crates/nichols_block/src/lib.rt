@@ -6,6 +6,7 @@
 
 mod collect;
 mod derivatives;
+mod empty;
 mod forms;
 mod levels;
 mod lower;
@@ -19,6 +20,9 @@ pub use collect::lower_values;
 pub use levels::Levels;
 pub use making::make;
 pub use nichols_value::{BlockKey, BlockRule, BlockValue, Form, Looked, LowerValue, Shared};
+
+/// The greatest number of words, rows or columns of a block: their places are kept in 32 bits.
+const MOST_PLACES: usize = 0xFFFF_FFFF;
 
 #[cfg(test)]
 mod tests;

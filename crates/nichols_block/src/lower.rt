@@ -1,19 +1,22 @@
 //! The rules of the lower blocks of a block, by letter.
 
-ghost use Rattle.std.specs.Prelude.{◌≡◌, ◌-◌, ℕ, None, [], IfOk, MatchOption, length, slice_index, slice_index_or};
+ghost use Rattle.std.specs.Prelude.{◌≡◌, ◌<◌, ◌-◌, ℕ, None, [], IfOk, MatchOption, length, slice_index, slice_index_or};
+ghost use Rattle.std.specs.List.{Contains};
+ghost use Rattle.nichols_tensor.specs.Positions.{word_at};
+ghost use Rattle.nichols_tensor.specs.WordOrder.{IsRising};
 ghost use Rattle.nichols_braid.specs.Braid.{IsLetter};
 ghost use Rattle.nichols_braid.specs.Product.{product_before};
-ghost use Rattle.nichols_tensor.specs.WordOrder.{IsRising};
 ghost use Rattle.nichols_braid.specs.Kernel.{is_killed};
 ghost use Rattle.nichols_braid.specs.Products.{rows};
 ghost use Rattle.nichols_value.specs.Block.{left_lower_basis, lower_basis};
 ghost use Rattle.nichols_value.specs.Rule.{rule_of};
 ghost use Rattle.nichols_value.specs.Worth.{worth};
 ghost use Rattle.nichols_value.specs.declared.value.BlockValue.TheVariants.{Rule};
-ghost use Rattle.nichols_block.specs.Lower.{AreFewBelow, AreLowerRules, IsUpperBlock, IsNoRule};
+ghost use Rattle.nichols_block.specs.Below.{AreFewBelow, IsNoRule};
+ghost use Rattle.nichols_block.specs.Lower.{AreLowerRules, IsUpperBlock};
 
 use nichols_braid::Braid;
-use nichols_value::{BlockKey, BlockRule, BlockValue, LowerValue};
+use nichols_value::{BlockKey, BlockRule, BlockValue, LowerValue, place_of};
 use nichols_words::Word;
 use std::alloc::{AllocError, Global};
 
@@ -86,6 +89,19 @@ pub(crate) fn words_below<'t>(
     match rule_below(braid, key, lower, letter) {
         Some(rule) => rule.basis(),
         None => &[],
+    }
+}
+
+/// The place of a word among those of a lower block.
+pub(crate) fn place_in(words: &[Word], word: &Word) -> usize
+    requires rising { IsRising words.now }
+    requires there { Contains words.now word.now }
+    ensures below { result < length words.now }
+    ensures place { word_at words.now result ≡ word.now }
+{
+    match place_of(words, word) {
+        Some(k) => k,
+        None => unreachable!(),
     }
 }
 

@@ -1,50 +1,14 @@
 //! The rule of the lowest degree.
 
-ghost use Rattle.std.specs.Prelude.{◌≡◌, [], IfOk, replicate};
+ghost use Rattle.std.specs.Prelude.{◌≡◌, IfOk};
 ghost use Rattle.nichols_tensor.specs.Words.{up_to};
 ghost use Rattle.nichols_value.specs.Rule.{rule_of};
 
+use crate::empty::{empty_rows_by_letter, no_words};
 use nichols_braid::{Braid, Product};
-use nichols_echelon::Rows;
 use nichols_value::{BlockKey, BlockRule, Words};
 use nichols_words::Word;
 use std::alloc::{AllocError, Global};
-
-/// No words, once for each letter.
-#[tactic(auto, using(crate::proofs::FirstRule::replicate_more))]
-fn no_words(alloc: Global, letters: u8) -> Result<Vec<Words>, AllocError>
-    ensures { IfOk result (λ r. r.items ≡ replicate letters []) }
-{
-    let mut lists = Vec::new(alloc);
-    for _ in 0..letters {
-        lists.push(Words::of(alloc, Vec::new(alloc))?)?;
-    }
-    Ok(lists)
-}
-
-/// So many rows with no cell.
-#[tactic(auto, using(crate::proofs::FirstRule::replicate_more))]
-fn rows_of_nothing(alloc: Global, count: usize) -> Result<Rows, AllocError>
-    ensures { IfOk result (λ r. r ≡ record { rows = replicate count []; begun = [] }) }
-{
-    let mut rows = Rows::new(alloc);
-    for _ in 0..count {
-        rows.close()?;
-    }
-    Ok(rows)
-}
-
-/// So many rows with no cell, once for each letter.
-#[tactic(auto, using(crate::proofs::FirstRule::replicate_more))]
-fn empty_rows(alloc: Global, letters: u8, count: usize) -> Result<Vec<Rows>, AllocError>
-    ensures { IfOk result (λ r. r.items ≡ replicate letters (record { rows = replicate count []; begun = [] })) }
-{
-    let mut lists = Vec::new(alloc);
-    for _ in 0..letters {
-        lists.push(rows_of_nothing(alloc, count)?)?;
-    }
-    Ok(lists)
-}
 
 /// The rule of the block of degree 0: the empty word is least, its derivatives are 0, and there is no word with a letter behind or
 /// in front.
@@ -61,8 +25,8 @@ pub(crate) fn lowest_rule(alloc: Global, braid: &Braid) -> Result<BlockRule, All
     words.push(Word::empty())?;
     let basis = Words::of(alloc, words)?;
     let below = no_words(alloc, letters)?;
-    let right = empty_rows(alloc, letters, 0)?;
-    let derivs = empty_rows(alloc, letters, 1)?;
-    let left = empty_rows(alloc, letters, 0)?;
+    let right = empty_rows_by_letter(alloc, letters, 0)?;
+    let derivs = empty_rows_by_letter(alloc, letters, 1)?;
+    let left = empty_rows_by_letter(alloc, letters, 0)?;
     Ok(BlockRule::new(key, basis, below, right, Vec::new(alloc), derivs, left))
 }

@@ -7,8 +7,9 @@ ghost use Rattle.nichols_braid.specs.Products.{rows};
 ghost use Rattle.nichols_value.specs.declared.value.BlockValue.TheVariants.{Over, Void};
 ghost use Rattle.nichols_value.specs.Value.{IsRight};
 ghost use Rattle.nichols_value.specs.Worth.{worth};
+ghost use Rattle.nichols_block.specs.Allowed.{AreAllowed, allows};
 ghost use Rattle.nichols_block.specs.Lower.{AreLowerValues, IsUpperBlock};
-ghost use Rattle.nichols_block.specs.Making.{AreAllowed, EachLower, IsARule, IsOverOrVoid, IsStarved, SomeLower, allows};
+ghost use Rattle.nichols_block.specs.Making.{EachLower, IsARule, IsOverOrVoid, IsStarved, SomeLower};
 
 use crate::lower::candidate_count;
 use crate::rule::block_rule;

@@ -4,19 +4,17 @@ ghost use Rattle.std.specs.Prelude.{◌≡◌, ◌<◌, ◌-◌, ◌^◌, ◌++�
 ghost use Rattle.nichols_echelon.specs.Cells.{AllBelow};
 ghost use Rattle.nichols_rows.specs.Places.{independent_in};
 ghost use Rattle.nichols_block.specs.Lower.{AreLowerRules, IsUpperBlock};
-ghost use Rattle.nichols_block.specs.NewRows.{AreNewRows, AreOffsets, joined, shifted};
+ghost use Rattle.nichols_block.specs.NewRows.{AreNewRows, AreOffsets, joined_row, cells_behind};
 ghost use Rattle.nichols_block.specs.Places.{ArePlacesOf};
 ghost use Rattle.nichols_block.specs.Rows.{AreNewDerivatives};
 ghost use Rattle.nichols_block.specs.Words.{block_new_words};
 
+use crate::MOST_PLACES;
 use crate::lower::words_below;
 use nichols_braid::Braid;
 use nichols_echelon::{Cell, Place, Rows, split_flat_rows};
 use nichols_value::{BlockKey, LowerValue};
 use std::alloc::{AllocError, Global};
-
-/// The greatest number of columns, and of rows.
-const MOST: usize = 0xFFFF_FFFF;
 
 /// By letter, from letter 1 on, how many words the lower blocks by the letters before it have.
 fn offsets_of(
@@ -34,7 +32,7 @@ fn offsets_of(
     for a in 0..braid.letters() {
         offsets.push(columns as u32)?;
         columns += words_below(braid, key, lower, a + 1).len();
-        if columns > MOST {
+        if columns > MOST_PLACES {
             return Err(AllocError);
         }
     }
@@ -45,7 +43,7 @@ fn offsets_of(
 fn push_shifted(rows: &mut Rows, offset: u32, cells: &[Cell]) -> Result<(), AllocError>
     requires { AllBelow (2 ^ 32 - offset) cells.now }
     ensures rows { rows.new.rows ≡ rows.old.rows }
-    ensures begun { OnOk result (rows.new.begun ≡ rows.old.begun ++ shifted offset cells.now) }
+    ensures begun { OnOk result (rows.new.begun ≡ rows.old.begun ++ cells_behind offset cells.now) }
 {
     for cell in cells {
         rows.push_cell(Cell {
@@ -70,7 +68,7 @@ fn push_new_row(
     requires offsets { AreOffsets braid.now key.now.degree key.now.product offsets.now }
     requires place { k < length (block_new_words braid.now key.now.degree key.now.product) }
     requires closed { rows.old.begun ≡ [] }
-    ensures { OnOk result (rows.new ≡ record { rows = rows.old.rows ++ joined braid.now key.now.degree key.now.product derivs.now k braid.now.letters ∷ []; begun = [] }) }
+    ensures { OnOk result (rows.new ≡ record { rows = rows.old.rows ++ joined_row braid.now key.now.degree key.now.product derivs.now k braid.now.letters ∷ []; begun = [] }) }
 {
     for (a, own) in derivs.iter().enumerate() {
         push_shifted(rows, offsets[a], own.row(k))?;
@@ -103,7 +101,7 @@ fn new_rows(
 ///
 /// A new word is least exactly where its row is no combination of the rows before it, and otherwise that combination of the words
 /// is its normal form (Heckenberger and Schneider, "Hopf Algebras and Root Systems": what all skew derivations kill is zero in the
-/// Nichols algebra). More than 2^32 - 1 words or columns are answered as want of memory.
+/// Nichols algebra). More words or columns than `MOST_PLACES` are answered as want of memory.
 pub(crate) fn places_of(
     alloc: Global,
     braid: &Braid,
@@ -119,7 +117,7 @@ pub(crate) fn places_of(
     let field = braid.field();
     let offsets = offsets_of(alloc, braid, key, lower)?;
     let rows = new_rows(alloc, braid, key, derivs, offsets.as_slice())?;
-    if rows.len() > MOST {
+    if rows.len() > MOST_PLACES {
         return Err(AllocError);
     }
     split_flat_rows(alloc, field, &rows)

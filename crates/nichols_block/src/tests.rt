@@ -5,16 +5,14 @@ ghost use Rattle.nichols_braid.specs.Product.{product_before};
 ghost use Rattle.nichols_braid.specs.Products.{products};
 ghost use Rattle.nichols_value.specs.Value.{IsRight};
 ghost use Rattle.nichols_value.specs.Worth.{worth};
-ghost use Rattle.nichols_block.specs.Levels.{is_lower_letter};
+ghost use Rattle.nichols_block.specs.Below.{is_lower_letter};
 ghost use Rattle.nichols_block.specs.Lower.{AreLowerValues, IsUpperBlock};
-ghost use Rattle.nichols_block.specs.Making.{AreRightFor};
+ghost use Rattle.nichols_block.specs.Tested.{AreRightFor};
 
 use super::*;
 use crate::lowest::lowest_rule;
-use nichols_braid::{Braid, MOST_DEGREES, Product, Products, Scalars};
-use nichols_field::Field;
-use nichols_tensor::LETTER_LIMIT;
-use nichols_words::Word;
+use nichols_braid::{Braid, MOST_DEGREES, Product, Products};
+use nichols_testing::{braid_with_constant, has_words, three_transpositions, word};
 use std::alloc::{AllocError, Global};
 use std::test::Fail;
 
@@ -138,26 +136,6 @@ fn first_values(
 
 const TWO: [&[i64]; 2] = [&[1, 2], &[1, 2]];
 
-const THREE: [&[i64]; 3] = [&[1, 3, 2], &[3, 2, 1], &[2, 1, 3]];
-
-fn rows_of(alloc: Global, entries: &[&[i64]]) -> Result<Vec<Vec<i64>>, AllocError> {
-    let mut out = Vec::new(alloc);
-    for row in entries {
-        out.push(row.to_vec(alloc)?)?;
-    }
-    Ok(out)
-}
-
-/// A rack with one scalar at every place.
-fn braid_of(alloc: Global, p: i64, rack: &[&[i64]], q: i64) -> Result<Braid, Fail> {
-    let field = Field::new(p).map_err(|_| "no field")?;
-    let rack = rows_of(alloc, rack)?;
-    let braid = Braid::new(alloc, field, rack.as_slice(), &Scalars::Constant(q)).map_err(
-        |_| "refused",
-    )?;
-    Ok(braid)
-}
-
 /// The values of the blocks of degrees 1 and 2 under a rows limit, by product.
 #[derive(Drop)]
 struct Values {
@@ -176,27 +154,6 @@ fn two_degrees(alloc: Global, braid: &Braid, limit: u32) -> Result<Values, Fail>
     let pairs = letters.next(alloc, braid).map_err(|_| "too many products")?;
     let two = next_values(alloc, braid, 1, limit, &letters, one.as_slice(), &pairs)?;
     Ok(Values { one, two })
-}
-
-/// The word that a text spells, as "3.1". What is no letter, or has no room, is left out.
-fn word(text: &str) -> Word {
-    let mut word = Word::empty();
-    for letter in text.split('.') {
-        if let Ok(letter) = letter.parse() {
-            if 1 <= letter && letter <= LETTER_LIMIT {
-                let _put = word.push(letter);
-            }
-        }
-    }
-    word
-}
-
-fn has_words(words: &[Word], expected: &[&str]) -> bool {
-    words.len() == expected.len()
-        && words
-            .iter()
-            .zip(expected)
-            .all(|(found, text)| *found == word(text))
 }
 
 /// The terms of a combination, with the word of each as a text.
@@ -279,9 +236,9 @@ const PAIRS: [(&[&str], &[Expected]); 3] = [
 /// Three letters of degree 1, each a block of its own; and in degree 2 three blocks, in the order of their first words 1.1, 1.2 and
 /// 1.3.
 #[test]
-fn three_transpositions(rt: HostRuntime) -> Result<(), Fail> {
+fn blocks_of_the_three_transpositions(rt: HostRuntime) -> Result<(), Fail> {
     let alloc = rt.alloc();
-    let braid = braid_of(alloc, 101, &THREE, -1)?;
+    let braid = three_transpositions(alloc)?;
     let values = two_degrees(alloc, &braid, 100)?;
     assert_eq!(rt; values.one.len(), 3);
     for (value, words) in values.one.iter().zip(&LETTERS) {
@@ -298,7 +255,7 @@ fn three_transpositions(rt: HostRuntime) -> Result<(), Fail> {
 #[test]
 fn derivatives_of_a_letter(rt: HostRuntime) -> Result<(), Fail> {
     let alloc = rt.alloc();
-    let braid = braid_of(alloc, 101, &THREE, -1)?;
+    let braid = three_transpositions(alloc)?;
     let none = Products::first(alloc, &braid)?;
     let empty = first_values(alloc, &braid, 100, &none)?;
     let letters = none.next(alloc, &braid).map_err(|_| "too many products")?;
@@ -324,7 +281,7 @@ fn derivatives_of_a_letter(rt: HostRuntime) -> Result<(), Fail> {
 #[test]
 fn trivial_rack(rt: HostRuntime) -> Result<(), Fail> {
     let alloc = rt.alloc();
-    let braid = braid_of(alloc, 2, &TWO, 1)?;
+    let braid = braid_with_constant(alloc, 2, &TWO, 1)?;
     let least = two_degrees(alloc, &braid, 1)?;
     assert_eq!(rt; least.one.len(), 1);
     assert!(rt; matches!(least.one[0].get(), Some(BlockValue::Over(2))));
@@ -342,7 +299,7 @@ fn trivial_rack(rt: HostRuntime) -> Result<(), Fail> {
 #[test]
 fn starved_below(rt: HostRuntime) -> Result<(), Fail> {
     let alloc = rt.alloc();
-    let braid = braid_of(alloc, 101, &THREE, -1)?;
+    let braid = three_transpositions(alloc)?;
     let none = Products::first(alloc, &braid)?;
     let starved = no_values(alloc, &braid, 100, &none)?;
     let letters = none.next(alloc, &braid).map_err(|_| "too many products")?;
@@ -362,7 +319,7 @@ fn crosses<T: Send + Sync>(_value: &T) -> bool {
 #[test]
 fn values_cross_threads(rt: HostRuntime) -> Result<(), Fail> {
     let alloc = rt.alloc();
-    let braid = braid_of(alloc, 101, &THREE, -1)?;
+    let braid = three_transpositions(alloc)?;
     let values = two_degrees(alloc, &braid, 100)?;
     for value in &values.two {
         assert!(rt; crosses(value));

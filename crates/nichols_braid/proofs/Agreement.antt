@@ -3,11 +3,11 @@ use Rattle.std.proofs.Common.{◌≡◌, ℕ, zero, suc, not, List, [], ◌∷�
 use Rattle.std.specs.Prelude.{unwrap_or, find}
 use Rattle.std.specs.List.{flat_map, filter, Contains}
 use Rattle.nichols_field.specs.Field.{FieldValue, negative}
-use Rattle.nichols_tensor.specs.Combination.{Combination, AllAmong, single, scaled, minus, without_zeros}
+use Rattle.nichols_tensor.specs.Combination.{Combination, AllAmong, single, scalar_multiple, minus, without_zeros}
 use Rattle.nichols_tensor.specs.Words.{up_to, IsWordOver, IsOver, HasDegree, words, words_before, combinations}
 use Rattle.nichols_tensor.proofs.Entries.{from_filter}
 use Rattle.nichols_tensor.proofs.Enumeration.{enumerated_words, among_from_words}
-use Rattle.nichols_tensor.proofs.Over.{all-append, all-scaled, all_among}
+use Rattle.nichols_tensor.proofs.Over.{all-append, all-scalar_multiple, all_among}
 use Rattle.nichols_tensor.proofs.AllWords.{from_words}
 use Rattle.nichols_tensor.proofs.Tests.{any_same, filter_same, find_same, map_same, all_of_entries}
 use Rattle.nichols_braid.specs.Braid.{BraidValue}
@@ -23,7 +23,7 @@ congruence_agrees : (vanishes other : Vanishing) (braid : BraidValue) → AgreeO
 unfolding are_congruent
 congruence_agrees vanishes other braid agree m f g df of dg og =
     let n : ℕ = negative braid.field 1 in
-    agree m (minus braid.field f g) (all-append _ f (scaled braid.field n g) df (all-scaled (λ v. length v ≡ m) braid.field n g dg)) (all-append _ f (scaled braid.field n g) of (all-scaled (IsWordOver braid.letters) braid.field n g og))
+    agree m (minus braid.field f g) (all-append _ f (scalar_multiple braid.field n g) df (all-scalar_multiple (λ v. length v ≡ m) braid.field n g dg)) (all-append _ f (scalar_multiple braid.field n g) of (all-scalar_multiple (IsWordOver braid.letters) braid.field n g og))
 
 least_agrees : (vanishes other : Vanishing) (braid : BraidValue) → AgreeOnDegrees vanishes other braid → (w : List ℕ) → IsWordOver braid.letters w → is_least vanishes braid w ≡ is_least other braid w
 unfolding is_least

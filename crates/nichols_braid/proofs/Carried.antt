@@ -6,31 +6,31 @@ use Rattle.std.proofs.lemmas.List.{map-append, append-nil}
 use Rattle.nichols_field.specs.Field.{FieldValue, IsField, times}
 use Rattle.nichols_field.proofs.FieldLaws.{times_comm, times_assoc}
 use Rattle.nichols_field.proofs.FieldAlgebra.{swap_factors}
-use Rattle.nichols_tensor.specs.Combination.{Term, Combination, value_at, HasSameValues, scaled, extended}
+use Rattle.nichols_tensor.specs.Combination.{Term, Combination, value_at, HasSameValues, scalar_multiple, linear_map}
 use Rattle.nichols_tensor.specs.Words.{IsWordOver, IsOver}
 use Rattle.nichols_tensor.proofs.Tests.{same_answer}
-use Rattle.nichols_tensor.proofs.Linear.{extended-append, same_scaled}
+use Rattle.nichols_tensor.proofs.Linear.{linear_map-append, same_scaled}
 use Rattle.nichols_braid.specs.Braid.{BraidValue, IsLetter, IsRack, IsCocycle, act, scalar}
-use Rattle.nichols_braid.specs.Derivation.{scalars_met, derived_word, derived}
-use Rattle.nichols_braid.specs.LeftProduct.{letter_times, carried_word, carried}
-use Rattle.nichols_braid.proofs.Forms.{scaled-scaled}
-use Rattle.nichols_braid.proofs.LeftProducts.{letter_times-scaled}
-use Rattle.nichols_braid.proofs.Maps.{extended_same_on, extended-multiple, extended-extended}
+use Rattle.nichols_braid.specs.Derivation.{scalars_met, derived_word, skew_derivative}
+use Rattle.nichols_braid.specs.LeftProduct.{letter_times, carried_word, carried_past}
+use Rattle.nichols_braid.proofs.Forms.{scalar_multiple-scalar_multiple}
+use Rattle.nichols_braid.proofs.LeftProducts.{letter_times-scalar_multiple}
+use Rattle.nichols_braid.proofs.Maps.{extended_same_on, linear_map-multiple, linear_map-linear_map}
 use Rattle.nichols_braid.proofs.Rule.{here}
 
-scaled_commute : (k : FieldValue) (c d : ℕ) (f : Combination) → scaled k c (scaled k d f) ≡ scaled k d (scaled k c f)
-scaled_commute k c d f = scaled-scaled k c d f ∙ ap (λ n. scaled k n f) (times_comm k c d) ∙ sym (scaled-scaled k d c f)
+scaled_commute : (k : FieldValue) (c d : ℕ) (f : Combination) → scalar_multiple k c (scalar_multiple k d f) ≡ scalar_multiple k d (scalar_multiple k c f)
+scaled_commute k c d f = scalar_multiple-scalar_multiple k c d f ∙ ap (λ n. scalar_multiple k n f) (times_comm k c d) ∙ sym (scalar_multiple-scalar_multiple k d c f)
 
-scaled-append : (k : FieldValue) (c : ℕ) (f g : Combination) → scaled k c (f ++ g) ≡ scaled k c f ++ scaled k c g
-scaled-append k c f g = map-append (λ t. record { word = t.word; coefficient = times k c t.coefficient }) f g
+scalar_multiple-append : (k : FieldValue) (c : ℕ) (f g : Combination) → scalar_multiple k c (f ++ g) ≡ scalar_multiple k c f ++ scalar_multiple k c g
+scalar_multiple-append k c f g = map-append (λ t. record { word = t.word; coefficient = times k c t.coefficient }) f g
 
 -- ---- a carried past a letter in front
 
 -- `θ_a x_b f = q(a, b) x_{a ▷ b} θ_a f`
-carried-letter_times : (braid : BraidValue) (a b : ℕ) (f : Combination) → carried braid a (letter_times b f) ≡ scaled braid.field (scalar braid a b) (letter_times (act braid a b) (carried braid a f))
-carried-letter_times braid a b [] = refl
-carried-letter_times braid a b (t ∷ f) =
-    ap₂ (λ n r. record { word = act braid a b ∷ map (act braid a) t.word; coefficient = n } ∷ r) (swap_factors braid.field t.coefficient (scalar braid a b) (scalars_met braid a t.word)) (carried-letter_times braid a b f)
+carried_past-letter_times : (braid : BraidValue) (a b : ℕ) (f : Combination) → carried_past braid a (letter_times b f) ≡ scalar_multiple braid.field (scalar braid a b) (letter_times (act braid a b) (carried_past braid a f))
+carried_past-letter_times braid a b [] = refl
+carried_past-letter_times braid a b (t ∷ f) =
+    ap₂ (λ n r. record { word = act braid a b ∷ map (act braid a) t.word; coefficient = n } ∷ r) (swap_factors braid.field t.coefficient (scalar braid a b) (scalars_met braid a t.word)) (carried_past-letter_times braid a b f)
 
 -- ---- two letters carried past a word
 
@@ -65,8 +65,8 @@ same_if_acted_same braid rack a c x la lc lx =
 
 -- the term of the first letter
 first_carried : (braid : BraidValue) → IsRack braid → IsCocycle braid → (a c x : ℕ) → IsLetter braid a → IsLetter braid c → (w : List ℕ) → IsWordOver braid.letters w → (same : Bool) → (same ≡ true → c ≡ x) →
-    scaled braid.field (times braid.field (scalar braid a x) (scalars_met braid a w)) (here same (record { word = map (act braid (act braid a c)) (map (act braid a) w); coefficient = scalars_met braid (act braid a c) (map (act braid a) w) }))
-    ≡ scaled braid.field (scalar braid a c) (carried braid a (here same (record { word = map (act braid c) w; coefficient = scalars_met braid c w })))
+    scalar_multiple braid.field (times braid.field (scalar braid a x) (scalars_met braid a w)) (here same (record { word = map (act braid (act braid a c)) (map (act braid a) w); coefficient = scalars_met braid (act braid a c) (map (act braid a) w) }))
+    ≡ scalar_multiple braid.field (scalar braid a c) (carried_past braid a (here same (record { word = map (act braid c) w; coefficient = scalars_met braid c w })))
 unfolding here
 first_carried braid rack cocycle a c x la lc w over true e =
     let k : FieldValue = braid.field in
@@ -75,19 +75,19 @@ first_carried braid rack cocycle a c x la lc w over true e =
 first_carried braid rack cocycle a c x la lc w over false e = refl
 
 -- at a word w, where `θ_a w` is its word times what a met
-derived_word-carried : (braid : BraidValue) → IsRack braid → IsCocycle braid → (a c : ℕ) → IsLetter braid a → IsLetter braid c → (w : List ℕ) → IsWordOver braid.letters w →
-    scaled braid.field (scalars_met braid a w) (derived_word braid (act braid a c) (map (act braid a) w)) ≡ scaled braid.field (scalar braid a c) (carried braid a (derived_word braid c w))
+derived_word-carried_past : (braid : BraidValue) → IsRack braid → IsCocycle braid → (a c : ℕ) → IsLetter braid a → IsLetter braid c → (w : List ℕ) → IsWordOver braid.letters w →
+    scalar_multiple braid.field (scalars_met braid a w) (derived_word braid (act braid a c) (map (act braid a) w)) ≡ scalar_multiple braid.field (scalar braid a c) (carried_past braid a (derived_word braid c w))
 unfolding derived_word here
-derived_word-carried braid rack cocycle a c la lc [] over = refl
-derived_word-carried braid rack cocycle a c la lc (x ∷ w) over =
-    scaled-append k (times k p met) (here (nat_eq ac ax) then) (letter_times ax behind)
+derived_word-carried_past braid rack cocycle a c la lc [] over = refl
+derived_word-carried_past braid rack cocycle a c la lc (x ∷ w) over =
+    scalar_multiple-append k (times k p met) (here (nat_eq ac ax) then) (letter_times ax behind)
     ∙ ap₂ (λ f g. f ++ g)
-    (ap (λ b. scaled k (times k p met) (here b then)) (same_if_acted_same braid rack a c x la lc over.0) ∙ first_carried braid rack cocycle a c x la lc w over.1 (nat_eq c x) (Decides-eqb c x).0)
-    (sym (scaled-scaled k p met (letter_times ax behind))
-    ∙ ap (scaled k p) (sym (letter_times-scaled k ax met behind) ∙ ap (letter_times ax) (derived_word-carried braid rack cocycle a c la lc w over.1) ∙ letter_times-scaled k ax q (carried braid a before))
-    ∙ scaled_commute k p q (letter_times ax (carried braid a before))
-    ∙ ap (scaled k q) (sym (carried-letter_times braid a x before)))
-    ∙ sym (ap (scaled k q) (extended-append k (carried_word braid a) (here (nat_eq c x) now) (letter_times x before)) ∙ scaled-append k q (carried braid a (here (nat_eq c x) now)) (carried braid a (letter_times x before)))
+    (ap (λ b. scalar_multiple k (times k p met) (here b then)) (same_if_acted_same braid rack a c x la lc over.0) ∙ first_carried braid rack cocycle a c x la lc w over.1 (nat_eq c x) (Decides-eqb c x).0)
+    (sym (scalar_multiple-scalar_multiple k p met (letter_times ax behind))
+    ∙ ap (scalar_multiple k p) (sym (letter_times-scalar_multiple k ax met behind) ∙ ap (letter_times ax) (derived_word-carried_past braid rack cocycle a c la lc w over.1) ∙ letter_times-scalar_multiple k ax q (carried_past braid a before))
+    ∙ scaled_commute k p q (letter_times ax (carried_past braid a before))
+    ∙ ap (scalar_multiple k q) (sym (carried_past-letter_times braid a x before)))
+    ∙ sym (ap (scalar_multiple k q) (linear_map-append k (carried_word braid a) (here (nat_eq c x) now) (letter_times x before)) ∙ scalar_multiple-append k q (carried_past braid a (here (nat_eq c x) now)) (carried_past braid a (letter_times x before)))
   where
     k : FieldValue
     k = braid.field
@@ -120,13 +120,13 @@ derived_word-carried braid rack cocycle a c la lc (x ∷ w) over =
     behind = derived_word braid ac (map (act braid a) w)
 
 -- `∂_{a ▷ c} θ_a f = q(a, c) θ_a ∂_c f`, for each f over the letters
-pub derived-carried : (braid : BraidValue) → IsField braid.field → IsRack braid → IsCocycle braid → (a c : ℕ) → IsLetter braid a → IsLetter braid c → (f : Combination) → IsOver braid.letters f →
-    HasSameValues braid.field (derived braid (act braid a c) (carried braid a f)) (scaled braid.field (scalar braid a c) (carried braid a (derived braid c f)))
-derived-carried braid is rack cocycle a c la lc f over w =
-    extended-extended k is (carried_word braid a) behind f w
-    ∙ extended_same_on k is (λ v. extended k behind (carried_word braid a v)) (λ v. scaled k q (carried braid a (before v))) f (each f over) w
-    ∙ extended-multiple k is q (λ v. carried braid a (before v)) f w
-    ∙ same_scaled k is q (extended k (λ v. carried braid a (before v)) f) (carried braid a (derived braid c f)) (λ u. sym (extended-extended k is before (carried_word braid a) f u)) w
+pub skew_derivative-carried_past : (braid : BraidValue) → IsField braid.field → IsRack braid → IsCocycle braid → (a c : ℕ) → IsLetter braid a → IsLetter braid c → (f : Combination) → IsOver braid.letters f →
+    HasSameValues braid.field (skew_derivative braid (act braid a c) (carried_past braid a f)) (scalar_multiple braid.field (scalar braid a c) (carried_past braid a (skew_derivative braid c f)))
+skew_derivative-carried_past braid is rack cocycle a c la lc f over w =
+    linear_map-linear_map k is (carried_word braid a) behind f w
+    ∙ extended_same_on k is (λ v. linear_map k behind (carried_word braid a v)) (λ v. scalar_multiple k q (carried_past braid a (before v))) f (each f over) w
+    ∙ linear_map-multiple k is q (λ v. carried_past braid a (before v)) f w
+    ∙ same_scaled k is q (linear_map k (λ v. carried_past braid a (before v)) f) (carried_past braid a (skew_derivative braid c f)) (λ u. sym (linear_map-linear_map k is before (carried_word braid a) f u)) w
   where
     k : FieldValue
     k = braid.field
@@ -140,7 +140,7 @@ derived-carried braid is rack cocycle a c la lc f over w =
     behind : List ℕ → Combination
     behind = derived_word braid (act braid a c)
 
-    each : (f : Combination) → IsOver braid.letters f → AllByRecursion (λ t. HasSameValues k (extended k behind (carried_word braid a t.word)) (scaled k q (carried braid a (before t.word)))) f
+    each : (f : Combination) → IsOver braid.letters f → AllByRecursion (λ t. HasSameValues k (linear_map k behind (carried_word braid a t.word)) (scalar_multiple k q (carried_past braid a (before t.word)))) f
     each [] h = tt
     each (t ∷ f) h =
-        ((λ u. ap (λ g. value_at k g u) (append-nil (scaled k (scalars_met braid a t.word) (behind (map (act braid a) t.word))) ∙ derived_word-carried braid rack cocycle a c la lc t.word h.0)), each f h.1)
+        ((λ u. ap (λ g. value_at k g u) (append-nil (scalar_multiple k (scalars_met braid a t.word) (behind (map (act braid a) t.word))) ∙ derived_word-carried_past braid rack cocycle a c la lc t.word h.0)), each f h.1)

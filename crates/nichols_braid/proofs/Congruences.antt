@@ -5,11 +5,11 @@ use Rattle.std.specs.List.{AllByRecursion}
 use Rattle.nichols_field.specs.Field.{FieldValue, IsField, IsElement, plus, times, negative}
 use Rattle.nichols_field.proofs.FieldLaws.{plus_comm, plus_assoc, times_plus, times_zero, opposite_sum, times_is_element, plus_zero}
 use Rattle.nichols_field.proofs.FieldAlgebra.{zero_plus, one_times, swap_middle, swap_factors, negative_twice}
-use Rattle.nichols_tensor.specs.Combination.{Combination, value_at, HasSameValues, IsZero, AllElements, single, scaled, minus, extended}
-use Rattle.nichols_tensor.proofs.Values.{value_is_element, value_at-append, value_at-scaled, value_at-minus}
+use Rattle.nichols_tensor.specs.Combination.{Combination, value_at, HasSameValues, IsZero, AllElements, single, scalar_multiple, minus, linear_map}
+use Rattle.nichols_tensor.proofs.Values.{value_is_element, value_at-append, value_at-scalar_multiple, value_at-minus}
 use Rattle.nichols_tensor.proofs.Linear.{minus_is_zero}
-use Rattle.nichols_tensor.proofs.Over.{all-append, all-scaled}
-use Rattle.nichols_tensor.proofs.Building.{elements-scaled}
+use Rattle.nichols_tensor.proofs.Over.{all-append, all-scalar_multiple}
+use Rattle.nichols_tensor.proofs.Building.{elements-scalar_multiple}
 use Rattle.nichols_braid.specs.LinearTest.{IsLinearTest}
 use Rattle.nichols_braid.proofs.Maps.{extended_identity}
 
@@ -28,14 +28,14 @@ pub congruent_same : (k : FieldValue) → IsField k → (test : Combination → 
 congruent_same k is test l f g same = zero_passes k test l (minus k f g) (minus_is_zero k is f g same)
 
 pub congruent_sym : (k : FieldValue) → IsField k → (test : Combination → Bool) → IsLinearTest k test → (f g : Combination) → AreCongruent k test f g → AreCongruent k test g f
-congruent_sym k is test l f g h = l.sees_values (scaled k (negative k 1) (minus k f g)) (minus k g f) values (l.keeps_multiples (negative k 1) (minus k f g) h)
+congruent_sym k is test l f g h = l.sees_values (scalar_multiple k (negative k 1) (minus k f g)) (minus k g f) values (l.keeps_multiples (negative k 1) (minus k f g) h)
   where
     n : ℕ
     n = negative k 1
 
-    values : HasSameValues k (scaled k (negative k 1) (minus k f g)) (minus k g f)
+    values : HasSameValues k (scalar_multiple k (negative k 1) (minus k f g)) (minus k g f)
     values w =
-        value_at-scaled k is (negative k 1) (minus k f g) w ∙ ap (times k (negative k 1)) (value_at-minus k is f g w)
+        value_at-scalar_multiple k is (negative k 1) (minus k f g) w ∙ ap (times k (negative k 1)) (value_at-minus k is f g w)
         ∙ times_plus k (negative k 1) (value_at k f w) (times k (negative k 1) (value_at k g w))
         ∙ ap (plus k (times k (negative k 1) (value_at k f w))) (negative_twice k (value_at k g w) is (value_is_element k is g w))
         ∙ plus_comm k (times k (negative k 1) (value_at k f w)) (value_at k g w)
@@ -92,17 +92,17 @@ congruent-append k is test l f g f' g' p q = l.sees_values (minus k f g ++ minus
         ∙ ap (λ x. plus k (value_at k (f ++ f') w) (times k (negative k 1) x)) (sym (value_at-append k is g g' w))
         ∙ sym (value_at-minus k is (f ++ f') (g ++ g') w)
 
-pub congruent-scaled : (k : FieldValue) → IsField k → (test : Combination → Bool) → IsLinearTest k test → (c : ℕ) (f g : Combination) → AreCongruent k test f g → AreCongruent k test (scaled k c f) (scaled k c g)
-congruent-scaled k is test l c f g h = l.sees_values (scaled k c (minus k f g)) (minus k (scaled k c f) (scaled k c g)) values (l.keeps_multiples c (minus k f g) h)
+pub congruent-scalar_multiple : (k : FieldValue) → IsField k → (test : Combination → Bool) → IsLinearTest k test → (c : ℕ) (f g : Combination) → AreCongruent k test f g → AreCongruent k test (scalar_multiple k c f) (scalar_multiple k c g)
+congruent-scalar_multiple k is test l c f g h = l.sees_values (scalar_multiple k c (minus k f g)) (minus k (scalar_multiple k c f) (scalar_multiple k c g)) values (l.keeps_multiples c (minus k f g) h)
   where
-    values : HasSameValues k (scaled k c (minus k f g)) (minus k (scaled k c f) (scaled k c g))
+    values : HasSameValues k (scalar_multiple k c (minus k f g)) (minus k (scalar_multiple k c f) (scalar_multiple k c g))
     values w =
-        value_at-scaled k is c (minus k f g) w ∙ ap (times k c) (value_at-minus k is f g w)
+        value_at-scalar_multiple k is c (minus k f g) w ∙ ap (times k c) (value_at-minus k is f g w)
         ∙ times_plus k c (value_at k f w) (times k (negative k 1) (value_at k g w))
         ∙ ap (plus k (times k c (value_at k f w))) (swap_factors k c (negative k 1) (value_at k g w))
-        ∙ ap (λ x. plus k x (times k (negative k 1) (times k c (value_at k g w)))) (sym (value_at-scaled k is c f w))
-        ∙ ap (λ x. plus k (value_at k (scaled k c f) w) (times k (negative k 1) x)) (sym (value_at-scaled k is c g w))
-        ∙ sym (value_at-minus k is (scaled k c f) (scaled k c g) w)
+        ∙ ap (λ x. plus k x (times k (negative k 1) (times k c (value_at k g w)))) (sym (value_at-scalar_multiple k is c f w))
+        ∙ ap (λ x. plus k (value_at k (scalar_multiple k c f) w) (times k (negative k 1) x)) (sym (value_at-scalar_multiple k is c g w))
+        ∙ sym (value_at-minus k is (scalar_multiple k c f) (scalar_multiple k c g) w)
 
 -- ---- reduction to certain words
 
@@ -110,21 +110,21 @@ congruent-scaled k is test l c f g h = l.sees_values (scaled k c (minus k f g)) 
 abbrev pub IsReduced : FieldValue → (Combination → Bool) → (List ℕ → Type 0) → Combination → Type 0
 IsReduced k test P f = (g : Combination) × AllByRecursion (λ t. P t.word) g × AreCongruent k test f g
 
-reduced_sum : (k : FieldValue) → IsField k → (test : Combination → Bool) → IsLinearTest k test → (P : List ℕ → Type 0) (f : Combination) → AllByRecursion (λ t. IsReduced k test P (single t.word)) f → IsReduced k test P (extended k single f)
+reduced_sum : (k : FieldValue) → IsField k → (test : Combination → Bool) → IsLinearTest k test → (P : List ℕ → Type 0) (f : Combination) → AllByRecursion (λ t. IsReduced k test P (single t.word)) f → IsReduced k test P (linear_map k single f)
 reduced_sum k is test l P [] h = ([], tt, congruent_same k is test l [] [] (λ w. refl))
 reduced_sum k is test l P (t ∷ f) h =
     let (g, a, c) = h.0 in
     let (r, b, d) = reduced_sum k is test l P f h.1 in (
-      scaled k t.coefficient g ++ r,
-      all-append (λ u. P u.word) (scaled k t.coefficient g) r (all-scaled P k t.coefficient g a) b,
-      congruent-append k is test l (scaled k t.coefficient (single t.word)) (scaled k t.coefficient g) (extended k single f) r (congruent-scaled k is test l t.coefficient (single t.word) g c) d,
+      scalar_multiple k t.coefficient g ++ r,
+      all-append (λ u. P u.word) (scalar_multiple k t.coefficient g) r (all-scalar_multiple P k t.coefficient g a) b,
+      congruent-append k is test l (scalar_multiple k t.coefficient (single t.word)) (scalar_multiple k t.coefficient g) (linear_map k single f) r (congruent-scalar_multiple k is test l t.coefficient (single t.word) g c) d,
     )
 
 -- a combination is, where each of its words is
 pub reduced_of_each : (k : FieldValue) → IsField k → (test : Combination → Bool) → IsLinearTest k test → (P : List ℕ → Type 0) (f : Combination) → AllByRecursion (λ t. IsReduced k test P (single t.word)) f → IsReduced k test P f
 reduced_of_each k is test l P f h =
     let (g, a, c) = reduced_sum k is test l P f h in
-    (g, a, congruent_left k is test l (extended k single f) f g (extended_identity k is f) c)
+    (g, a, congruent_left k is test l (linear_map k single f) f g (extended_identity k is f) c)
 
 pub reduced_weaker : (k : FieldValue) (test : Combination → Bool) (P Q : List ℕ → Type 0) (f : Combination) → ((w : List ℕ) → P w → Q w) → IsReduced k test P f → IsReduced k test Q f
 reduced_weaker k test P Q f h (g, a, c) = (g, each g a, c)
@@ -142,11 +142,11 @@ reduced_through k is test l P f g c (r, a, d) = (r, a, congruent_trans k is test
 
 -- ---- coefficients that are elements
 
-pub with_elements : (k : FieldValue) → IsField k → (f : Combination) → HasSameValues k (scaled k 1 f) f
-with_elements k is f w = value_at-scaled k is 1 f w ∙ one_times k (value_at k f w) (value_is_element k is f w)
+pub with_elements : (k : FieldValue) → IsField k → (f : Combination) → HasSameValues k (scalar_multiple k 1 f) f
+with_elements k is f w = value_at-scalar_multiple k is 1 f w ∙ one_times k (value_at k f w) (value_is_element k is f w)
 
 -- the same, with elements of the field as coefficients
 pub reduced_with_elements : (k : FieldValue) → IsField k → (test : Combination → Bool) → IsLinearTest k test → (P : List ℕ → Type 0) (f : Combination) → IsReduced k test P f →
     (g : Combination) × AllByRecursion (λ t. P t.word) g × AllElements k g × AreCongruent k test f g
 reduced_with_elements k is test l P f (g, a, c) =
-    (scaled k 1 g, all-scaled P k 1 g a, elements-scaled k is 1 g, congruent_right k is test l f g (scaled k 1 g) (λ w. sym (with_elements k is g w)) c)
+    (scalar_multiple k 1 g, all-scalar_multiple P k 1 g a, elements-scalar_multiple k is 1 g, congruent_right k is test l f g (scalar_multiple k 1 g) (λ w. sym (with_elements k is g w)) c)

@@ -4,11 +4,11 @@ use Rattle.std.specs.Prelude.{if◌then◌else◌}
 use Rattle.std.specs.List.{AllByRecursion}
 use Rattle.std.proofs.lemmas.List.{length-map}
 use Rattle.nichols_field.specs.Field.{FieldValue, negative}
-use Rattle.nichols_tensor.specs.Combination.{Term, Combination, scaled, minus, extended}
+use Rattle.nichols_tensor.specs.Combination.{Term, Combination, scalar_multiple, minus, linear_map}
 use Rattle.nichols_tensor.specs.Words.{IsWordOver, IsOver, HasDegree}
 use Rattle.nichols_tensor.proofs.Pushed.{pushed_length, pushed_over}
 use Rattle.nichols_braid.specs.Braid.{BraidValue, IsLetter, IsRack, act}
-use Rattle.nichols_braid.specs.Derivation.{scalars_met, derived_word, derived}
+use Rattle.nichols_braid.specs.Derivation.{scalars_met, derived_word, skew_derivative}
 use Rattle.nichols_braid.specs.RightProduct.{times_letter}
 
 -- ---- what holds of the words of each term
@@ -21,14 +21,14 @@ pub words-append : (P : List ℕ → Type 0) (f g : Combination) → AllWords P 
 words-append P [] g h l = l
 words-append P (t ∷ f) g h l = (h.0, words-append P f g h.1 l)
 
-pub words-scaled : (P : List ℕ → Type 0) (k : FieldValue) (c : ℕ) (f : Combination) → AllWords P f → AllWords P (scaled k c f)
-words-scaled P k c [] h = tt
-words-scaled P k c (t ∷ f) h = (h.0, words-scaled P k c f h.1)
+pub words-scalar_multiple : (P : List ℕ → Type 0) (k : FieldValue) (c : ℕ) (f : Combination) → AllWords P f → AllWords P (scalar_multiple k c f)
+words-scalar_multiple P k c [] h = tt
+words-scalar_multiple P k c (t ∷ f) h = (h.0, words-scalar_multiple P k c f h.1)
 
-pub words-extended : (P Q : List ℕ → Type 0) (k : FieldValue) (image : List ℕ → Combination) → ((w : List ℕ) → P w → AllWords Q (image w)) → (f : Combination) → AllWords P f → AllWords Q (extended k image f)
-words-extended P Q k image h [] all = tt
-words-extended P Q k image h (t ∷ f) all =
-    words-append Q (scaled k t.coefficient (image t.word)) (extended k image f) (words-scaled Q k t.coefficient (image t.word) (h t.word all.0)) (words-extended P Q k image h f all.1)
+pub words-linear_map : (P Q : List ℕ → Type 0) (k : FieldValue) (image : List ℕ → Combination) → ((w : List ℕ) → P w → AllWords Q (image w)) → (f : Combination) → AllWords P f → AllWords Q (linear_map k image f)
+words-linear_map P Q k image h [] all = tt
+words-linear_map P Q k image h (t ∷ f) all =
+    words-append Q (scalar_multiple k t.coefficient (image t.word)) (linear_map k image f) (words-scalar_multiple Q k t.coefficient (image t.word) (h t.word all.0)) (words-linear_map P Q k image h f all.1)
 
 pub words-prefixed : (P Q : List ℕ → Type 0) (x : ℕ) → ((w : List ℕ) → P w → Q (x ∷ w)) → (f : Combination) → AllWords P f → AllWords Q (map (λ t. record { word = x ∷ t.word; coefficient = t.coefficient }) f)
 words-prefixed P Q x h [] all = tt
@@ -75,11 +75,11 @@ derived_word_over braid rack a l (x ∷ w) over =
     now : Term
     now = record { word = map (act braid a) w; coefficient = scalars_met braid a w }
 
-pub derived_degree : (braid : BraidValue) (a m : ℕ) (f : Combination) → HasDegree (suc m) f → HasDegree m (derived braid a f)
-derived_degree braid a m f h = words-extended (λ w. length w ≡ suc m) (λ w. length w ≡ m) braid.field (derived_word braid a) (λ w size. derived_word_degree braid a m w size) f h
+pub derived_degree : (braid : BraidValue) (a m : ℕ) (f : Combination) → HasDegree (suc m) f → HasDegree m (skew_derivative braid a f)
+derived_degree braid a m f h = words-linear_map (λ w. length w ≡ suc m) (λ w. length w ≡ m) braid.field (derived_word braid a) (λ w size. derived_word_degree braid a m w size) f h
 
-pub derived_over : (braid : BraidValue) → IsRack braid → (a : ℕ) → IsLetter braid a → (f : Combination) → IsOver braid.letters f → IsOver braid.letters (derived braid a f)
-derived_over braid rack a l f h = words-extended (IsWordOver braid.letters) (IsWordOver braid.letters) braid.field (derived_word braid a) (λ w over. derived_word_over braid rack a l w over) f h
+pub derived_over : (braid : BraidValue) → IsRack braid → (a : ℕ) → IsLetter braid a → (f : Combination) → IsOver braid.letters f → IsOver braid.letters (skew_derivative braid a f)
+derived_over braid rack a l f h = words-linear_map (IsWordOver braid.letters) (IsWordOver braid.letters) braid.field (derived_word braid a) (λ w over. derived_word_over braid rack a l w over) f h
 
 -- ---- products with a letter
 
@@ -92,7 +92,7 @@ times_letter_over n f b l h = words-times_letter (IsWordOver n) (IsWordOver n) b
 -- ---- differences
 
 pub minus_degree : (k : FieldValue) (m : ℕ) (f g : Combination) → HasDegree m f → HasDegree m g → HasDegree m (minus k f g)
-minus_degree k m f g h l = words-append (λ w. length w ≡ m) f (scaled k (negative k 1) g) h (words-scaled (λ w. length w ≡ m) k (negative k 1) g l)
+minus_degree k m f g h l = words-append (λ w. length w ≡ m) f (scalar_multiple k (negative k 1) g) h (words-scalar_multiple (λ w. length w ≡ m) k (negative k 1) g l)
 
 pub minus_over : (k : FieldValue) (n : ℕ) (f g : Combination) → IsOver n f → IsOver n g → IsOver n (minus k f g)
-minus_over k n f g h l = words-append (IsWordOver n) f (scaled k (negative k 1) g) h (words-scaled (IsWordOver n) k (negative k 1) g l)
+minus_over k n f g h l = words-append (IsWordOver n) f (scalar_multiple k (negative k 1) g) h (words-scalar_multiple (IsWordOver n) k (negative k 1) g l)

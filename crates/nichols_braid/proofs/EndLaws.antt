@@ -7,7 +7,7 @@ use Rattle.nichols_tensor.proofs.Entries.{contains_none, contains_first, contain
 use Rattle.nichols_braid.specs.declared.TheConstants.{MOST_DEGREES}
 use Rattle.nichols_braid.specs.Braid.{BraidValue}
 use Rattle.nichols_braid.specs.Kernel.{Vanishing}
-use Rattle.nichols_braid.specs.End.{is_empty_degree, finished_from, finished, is_closed, stop_of}
+use Rattle.nichols_braid.specs.End.{is_empty_degree, finished_from, degrees_finished, is_closed, stop_of}
 use Rattle.nichols_braid.specs.EndLaws.{AreFreeUpTo, FinishedDegrees, ClosedWhereADegreeIsEmpty, IsStoppedAt, AnEndIsReached}
 
 -- no degree from m on and below n is empty
@@ -96,18 +96,18 @@ finished_from_numbers vanishes braid stops (suc left) m = at (is_some (stops m))
     at false true ms e = refl
     at false false ms e = let next : suc m ≡ m + 1 = omega arith in ap (λ ks. m ∷ ks) (e ∙ ap (λ k. range_with_len k (length ms)) next)
 
-pub in_finished : {X : Type 0} (vanishes : Vanishing) (braid : BraidValue) (stops : ℕ → Option X) (m : ℕ) → m ≤ MOST_DEGREES → AreFreeUpTo stops m → AreFilledBelow vanishes braid m → Contains (finished vanishes braid stops) m
-unfolding finished
+pub in_finished : {X : Type 0} (vanishes : Vanishing) (braid : BraidValue) (stops : ℕ → Option X) (m : ℕ) → m ≤ MOST_DEGREES → AreFreeUpTo stops m → AreFilledBelow vanishes braid m → Contains (degrees_finished vanishes braid stops) m
+unfolding degrees_finished
 in_finished vanishes braid stops m within free filled = in_finished_from vanishes braid stops (suc MOST_DEGREES) 0 m (omega arith) (omega arith) (λ j h most. free j most) (λ j h less. filled j less)
 
-pub from_finished : {X : Type 0} (vanishes : Vanishing) (braid : BraidValue) (stops : ℕ → Option X) (m : ℕ) → Contains (finished vanishes braid stops) m → (m ≤ MOST_DEGREES) × AreFreeUpTo stops m × AreFilledBelow vanishes braid m
-unfolding finished
+pub from_finished : {X : Type 0} (vanishes : Vanishing) (braid : BraidValue) (stops : ℕ → Option X) (m : ℕ) → Contains (degrees_finished vanishes braid stops) m → (m ≤ MOST_DEGREES) × AreFreeUpTo stops m × AreFilledBelow vanishes braid m
+unfolding degrees_finished
 from_finished vanishes braid stops m i =
     let (from, below, free, filled) = from_finished_from vanishes braid stops (suc MOST_DEGREES) 0 m i in
     (omega arith, (λ j most. free j (omega arith) most), λ j less. filled j (omega arith) less)
 
-finished_numbers : {X : Type 0} (vanishes : Vanishing) (braid : BraidValue) (stops : ℕ → Option X) → finished vanishes braid stops ≡ range_with_len 0 (length (finished vanishes braid stops))
-unfolding finished
+finished_numbers : {X : Type 0} (vanishes : Vanishing) (braid : BraidValue) (stops : ℕ → Option X) → degrees_finished vanishes braid stops ≡ range_with_len 0 (length (degrees_finished vanishes braid stops))
+unfolding degrees_finished
 finished_numbers vanishes braid stops = finished_from_numbers vanishes braid stops (suc MOST_DEGREES) 0
 
 pub finished_degrees : (X : Type 0) → FinishedDegrees X
@@ -135,13 +135,13 @@ from_numbers a (suc n) k i =
     ]
 
 -- a degree is finished exactly where it is below the number of finished degrees
-pub finished_below_count : {X : Type 0} (vanishes : Vanishing) (braid : BraidValue) (stops : ℕ → Option X) (m : ℕ) → Contains (finished vanishes braid stops) m → m < length (finished vanishes braid stops)
+pub finished_below_count : {X : Type 0} (vanishes : Vanishing) (braid : BraidValue) (stops : ℕ → Option X) (m : ℕ) → Contains (degrees_finished vanishes braid stops) m → m < length (degrees_finished vanishes braid stops)
 finished_below_count vanishes braid stops m i =
-    let less : m < 0 + length (finished vanishes braid stops) = from_numbers 0 (length (finished vanishes braid stops)) m (subst (λ ms. Contains ms m) (finished_numbers vanishes braid stops) i) in
+    let less : m < 0 + length (degrees_finished vanishes braid stops) = from_numbers 0 (length (degrees_finished vanishes braid stops)) m (subst (λ ms. Contains ms m) (finished_numbers vanishes braid stops) i) in
     omega arith
 
-pub below_count_finished : {X : Type 0} (vanishes : Vanishing) (braid : BraidValue) (stops : ℕ → Option X) (m : ℕ) → m < length (finished vanishes braid stops) → Contains (finished vanishes braid stops) m
-below_count_finished vanishes braid stops m less = subst (λ ms. Contains ms m) (sym (finished_numbers vanishes braid stops)) (in_numbers 0 (length (finished vanishes braid stops)) m (omega arith) (omega arith))
+pub below_count_finished : {X : Type 0} (vanishes : Vanishing) (braid : BraidValue) (stops : ℕ → Option X) (m : ℕ) → m < length (degrees_finished vanishes braid stops) → Contains (degrees_finished vanishes braid stops) m
+below_count_finished vanishes braid stops m less = subst (λ ms. Contains ms m) (sym (finished_numbers vanishes braid stops)) (in_numbers 0 (length (degrees_finished vanishes braid stops)) m (omega arith) (omega arith))
 
 -- ---- closed
 
@@ -163,16 +163,16 @@ closed_if_empty : {X : Type 0} (vanishes : Vanishing) (braid : BraidValue) (stop
 unfolding is_closed
 closed_if_empty vanishes braid stops m within free empty =
     elim (first_below (is_empty_degree vanishes braid) m) [
-      | inl filled ↦ any_of (is_empty_degree vanishes braid) m (finished vanishes braid stops) (in_finished vanishes braid stops m within free filled) empty
+      | inl filled ↦ any_of (is_empty_degree vanishes braid) m (degrees_finished vanishes braid stops) (in_finished vanishes braid stops m within free filled) empty
       | inr (k, less, holds, first) ↦
-          any_of (is_empty_degree vanishes braid) k (finished vanishes braid stops) (in_finished vanishes braid stops k (omega arith) (λ j most. free j (omega arith)) first) holds
+          any_of (is_empty_degree vanishes braid) k (degrees_finished vanishes braid stops) (in_finished vanishes braid stops k (omega arith) (λ j most. free j (omega arith)) first) holds
     ]
 
 empty_if_closed : {X : Type 0} (vanishes : Vanishing) (braid : BraidValue) (stops : ℕ → Option X) → is_closed vanishes braid stops ≡ true →
     (m : ℕ) × (m ≤ MOST_DEGREES) × AreFreeUpTo stops m × (is_empty_degree vanishes braid m ≡ true)
 unfolding is_closed
 empty_if_closed vanishes braid stops closed =
-    let (m, i, empty) = some_of (is_empty_degree vanishes braid) (finished vanishes braid stops) closed in
+    let (m, i, empty) = some_of (is_empty_degree vanishes braid) (degrees_finished vanishes braid stops) closed in
     let (within, free, filled) = from_finished vanishes braid stops m i in
     (m, within, free, empty)
 
@@ -183,7 +183,7 @@ closed_where_a_degree_is_empty X vanishes braid stops = (empty_if_closed vanishe
 
 -- the number of finished degrees, which is the first degree that isn't finished
 abbrev count : {X : Type 0} → Vanishing → BraidValue → (ℕ → Option X) → ℕ
-count vanishes braid stops = length (finished vanishes braid stops)
+count vanishes braid stops = length (degrees_finished vanishes braid stops)
 
 -- no finished degree of an algebra that isn't closed is empty
 filled_below_count : {X : Type 0} (vanishes : Vanishing) (braid : BraidValue) (stops : ℕ → Option X) → is_closed vanishes braid stops ≡ false → AreFilledBelow vanishes braid (count vanishes braid stops)
@@ -192,14 +192,14 @@ filled_below_count vanishes braid stops unclosed j less = at (is_empty_degree va
   where
     at : (b : Bool) → is_empty_degree vanishes braid j ≡ b → is_empty_degree vanishes braid j ≡ false
     at true e =
-        let closed : is_closed vanishes braid stops ≡ true = any_of (is_empty_degree vanishes braid) j (finished vanishes braid stops) (below_count_finished vanishes braid stops j less) e in
+        let closed : is_closed vanishes braid stops ≡ true = any_of (is_empty_degree vanishes braid) j (degrees_finished vanishes braid stops) (below_count_finished vanishes braid stops j less) e in
         cc
     at false e = e
 
 free_below_count : {X : Type 0} (vanishes : Vanishing) (braid : BraidValue) (stops : ℕ → Option X) (j : ℕ) → j < count vanishes braid stops → stops j ≡ None
 free_below_count vanishes braid stops j less = (from_finished vanishes braid stops j (below_count_finished vanishes braid stops j less)).1 j (omega arith)
 
-not_beyond_count : {X : Type 0} (vanishes : Vanishing) (braid : BraidValue) (stops : ℕ → Option X) → Contains (finished vanishes braid stops) (count vanishes braid stops) → ⊥
+not_beyond_count : {X : Type 0} (vanishes : Vanishing) (braid : BraidValue) (stops : ℕ → Option X) → Contains (degrees_finished vanishes braid stops) (count vanishes braid stops) → ⊥
 not_beyond_count vanishes braid stops i = let less : count vanishes braid stops < count vanishes braid stops = finished_below_count vanishes braid stops (count vanishes braid stops) i in omega arith
 
 -- where the algebra isn't closed, the first degree that isn't finished is stopped, or beyond the greatest

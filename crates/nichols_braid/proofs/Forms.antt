@@ -4,17 +4,16 @@ use Rattle.std.specs.List.{AllByRecursion, Contains}
 use Rattle.std.specs.Cmp.Lexicographic.{same_text, other_text}
 use Rattle.nichols_field.specs.Field.{FieldValue, IsField, times}
 use Rattle.nichols_field.proofs.FieldLaws.{times_assoc}
-use Rattle.nichols_tensor.specs.Combination.{Combination, value_at, HasSameValues, AllElements, AllAmong, same_letters, single, scaled, extended, words_of}
+use Rattle.nichols_tensor.specs.Combination.{Combination, value_at, HasSameValues, AllElements, AllAmong, same_letters, single, scalar_multiple, linear_map, words_of}
 use Rattle.nichols_tensor.specs.Relation.{PlainRelation}
-use Rattle.nichols_tensor.specs.WordOrder.{IsRising, IsOrdered}
+use Rattle.nichols_tensor.specs.WordOrder.{IsOrdered}
 use Rattle.nichols_tensor.proofs.Entries.{contains_none, contains_first, contains_later, contains_cases}
-use Rattle.nichols_tensor.proofs.Enumeration.{among-append, among-scaled}
-use Rattle.nichols_tensor.proofs.Ordered.{before_all, is_in_or_not, zero_at_others, among_nonzero}
+use Rattle.nichols_tensor.proofs.Enumeration.{among-append, among-scalar_multiple}
+use Rattle.nichols_tensor.proofs.Ordered.{is_in_or_not, zero_at_others, among_nonzero}
 use Rattle.nichols_tensor.proofs.Over.{all_at, all_of_words}
-use Rattle.nichols_tensor.proofs.Values.{same_itself}
 use Rattle.nichols_braid.specs.Forms.{candidates_of, form_in}
 use Rattle.nichols_braid.specs.LinearTest.{IsLinearTest}
-use Rattle.nichols_braid.proofs.Congruences.{AreCongruent, congruent_same, congruent-append, congruent-scaled}
+use Rattle.nichols_braid.proofs.Congruences.{AreCongruent, congruent_same, congruent-append, congruent-scalar_multiple}
 
 -- ---- the form of a word in a table
 
@@ -32,18 +31,6 @@ candidate_at : (table : List PlainRelation) (i : ℕ) (d : PlainRelation) → i 
 candidate_at [] i d less = absurd (omega arith)
 candidate_at (r ∷ table) zero d less = contains_first r.candidate (candidates_of table)
 candidate_at (r ∷ table) (suc i) d less = contains_later r.candidate (candidates_of table) (get_or table i d).candidate (candidate_at table i d (omega arith))
-
--- a candidate of the table has the form of its relation
-pub form_at : (table : List PlainRelation) (i : ℕ) (d : PlainRelation) → IsRising (candidates_of table) → i < length table → form_in table (get_or table i d).candidate ≡ (get_or table i d).form
-unfolding form_in
-form_at [] i d rising less = absurd (omega arith)
-form_at (r ∷ table) zero d rising less = ap (λ b. cond b r.form (form_in table r.candidate)) (same_itself r.candidate)
-form_at (r ∷ table) (suc i) d rising less = at (same_letters r.candidate (get_or table i d).candidate) refl (form_at table i d rising.1 (omega arith))
-  where
-    at : (b : Bool) → same_letters r.candidate (get_or table i d).candidate ≡ b → form_in table (get_or table i d).candidate ≡ (get_or table i d).form →
-        cond b r.form (form_in table (get_or table i d).candidate) ≡ (get_or table i d).form
-    at true e rest = absurd (before_all r.candidate (candidates_of table) rising.0 rising.1 (subst (λ w. Contains (candidates_of table) w) (sym (same_text r.candidate (get_or table i d).candidate (sym e))) (candidate_at table i d (omega arith))))
-    at false e rest = rest
 
 -- ---- a table that lists the forms of some words
 
@@ -64,9 +51,9 @@ candidates_listed F (w ∷ ws) = ap (λ vs. w ∷ vs) (candidates_listed F ws)
 -- ---- combinations
 
 -- a multiple of a multiple
-pub scaled-scaled : (k : FieldValue) (b c : ℕ) (f : Combination) → scaled k b (scaled k c f) ≡ scaled k (times k b c) f
-scaled-scaled k b c [] = refl
-scaled-scaled k b c (t ∷ f) = ap₂ (λ n (g : Combination). record { word = t.word; coefficient = n } ∷ g) (sym (times_assoc k b c t.coefficient)) (scaled-scaled k b c f)
+pub scalar_multiple-scalar_multiple : (k : FieldValue) (b c : ℕ) (f : Combination) → scalar_multiple k b (scalar_multiple k c f) ≡ scalar_multiple k (times k b c) f
+scalar_multiple-scalar_multiple k b c [] = refl
+scalar_multiple-scalar_multiple k b c (t ∷ f) = ap₂ (λ n (g : Combination). record { word = t.word; coefficient = n } ∷ g) (sym (times_assoc k b c t.coefficient)) (scalar_multiple-scalar_multiple k b c f)
 
 -- a combination in order has no words but those of one with its values
 pub among_same : (k : FieldValue) → IsField k → (f g : Combination) (ws : List (List ℕ)) → AllElements k f → IsOrdered f → HasSameValues k f g → AllAmong g ws → AllAmong f ws
@@ -82,14 +69,14 @@ among_same k is f g ws e o same among = among_nonzero k is f ws e o at
 
 -- linear maps whose images of the words that occur are congruent
 pub congruent_extended : (k : FieldValue) → IsField k → (test : Combination → Bool) → IsLinearTest k test → (image other : List ℕ → Combination) (f : Combination) →
-    AllByRecursion (λ t. AreCongruent k test (image t.word) (other t.word)) f → AreCongruent k test (extended k image f) (extended k other f)
+    AllByRecursion (λ t. AreCongruent k test (image t.word) (other t.word)) f → AreCongruent k test (linear_map k image f) (linear_map k other f)
 congruent_extended k is test l image other [] h = congruent_same k is test l [] [] (λ w. refl)
 congruent_extended k is test l image other (t ∷ f) h =
-    congruent-append k is test l (scaled k t.coefficient (image t.word)) (scaled k t.coefficient (other t.word)) (extended k image f) (extended k other f)
-    (congruent-scaled k is test l t.coefficient (image t.word) (other t.word) h.0) (congruent_extended k is test l image other f h.1)
+    congruent-append k is test l (scalar_multiple k t.coefficient (image t.word)) (scalar_multiple k t.coefficient (other t.word)) (linear_map k image f) (linear_map k other f)
+    (congruent-scalar_multiple k is test l t.coefficient (image t.word) (other t.word) h.0) (congruent_extended k is test l image other f h.1)
 
-pub among-extended : (k : FieldValue) (image : List ℕ → Combination) (f : Combination) (ws : List (List ℕ)) → AllByRecursion (λ t. AllAmong (image t.word) ws) f → AllAmong (extended k image f) ws
+pub among-linear_map : (k : FieldValue) (image : List ℕ → Combination) (f : Combination) (ws : List (List ℕ)) → AllByRecursion (λ t. AllAmong (image t.word) ws) f → AllAmong (linear_map k image f) ws
 unfolding AllAmong
-among-extended k image [] ws h = tt
-among-extended k image (t ∷ f) ws h =
-    among-append (scaled k t.coefficient (image t.word)) (extended k image f) ws (among-scaled k t.coefficient (image t.word) ws h.0) (among-extended k image f ws h.1)
+among-linear_map k image [] ws h = tt
+among-linear_map k image (t ∷ f) ws h =
+    among-append (scalar_multiple k t.coefficient (image t.word)) (linear_map k image f) ws (among-scalar_multiple k t.coefficient (image t.word) ws h.0) (among-linear_map k image f ws h.1)

@@ -3,7 +3,7 @@ use Rattle.std.proofs.Common.{◌≡◌, ℕ, suc, Bool, true, false, not, List,
 use Rattle.std.specs.List.{filter, AllByRecursion, Contains}
 use Rattle.std.proofs.lemmas.Bool.{not-true}
 use Rattle.nichols_field.specs.Field.{FieldValue, IsField}
-use Rattle.nichols_tensor.specs.Combination.{Combination, AllAmong, single, minus, extended}
+use Rattle.nichols_tensor.specs.Combination.{Combination, AllAmong, single, minus, linear_map}
 use Rattle.nichols_tensor.specs.Words.{IsWordOver, IsOver, HasDegree}
 use Rattle.nichols_tensor.proofs.Entries.{from_filter, in_filter}
 use Rattle.nichols_braid.specs.Braid.{BraidValue, IsLetter}
@@ -21,7 +21,7 @@ use Rattle.nichols_braid.proofs.Congruences.{AreCongruent, congruent_trans, cong
 use Rattle.nichols_braid.proofs.Reduction.{in_basis, from_basis}
 use Rattle.nichols_braid.proofs.NormalForms.{form_is_normal, form_of_least}
 use Rattle.nichols_braid.proofs.Candidates.{in_candidates, from_candidates, relations_are, relations_of}
-use Rattle.nichols_braid.proofs.Forms.{form_elsewhere, form_listed, candidates_listed, congruent_extended, among-extended}
+use Rattle.nichols_braid.proofs.Forms.{form_elsewhere, form_listed, candidates_listed, congruent_extended, among-linear_map}
 
 -- ---- a candidate
 
@@ -69,11 +69,11 @@ pub followed_is_form : (vanishes : Vanishing) (braid : BraidValue) → IsField b
     IsReducedTo vanishes braid (suc p) (times_letter d c) (followed_form braid.field (relations vanishes braid (suc p)) (normal_form vanishes braid p d) c)
 unfolding AllAmong
 followed_is_form vanishes braid is ideal p d c degree over lc = record {
-  among = among-extended k image g (basis vanishes braid (suc p)) (all_forms g n.least);
-  congruent = congruent_trans k is (vanishes braid (suc p)) l (times_letter d c) (times_letter g c) (extended k image g)
+  among = among-linear_map k image g (basis vanishes braid (suc p)) (all_forms g n.least);
+  congruent = congruent_trans k is (vanishes braid (suc p)) l (times_letter d c) (times_letter g c) (linear_map k image g)
       (subst (λ h. vanishes braid (suc p) h ≡ true) (times_letter-minus k d g c)
       (ideal.right p (minus k d g) c (minus_degree k p d g degree (degree_of g n.least)) (minus_over k braid.letters d g over (over_of g n.least)) lc n.congruent))
-      (congruent_left k is (vanishes braid (suc p)) l (extended k (λ v. single (v ++ c ∷ [])) g) (times_letter g c) (extended k image g) (λ w. sym (times_letter_is_extended k is g c w))
+      (congruent_left k is (vanishes braid (suc p)) l (linear_map k (λ v. single (v ++ c ∷ [])) g) (times_letter g c) (linear_map k image g) (λ w. sym (times_letter_is_extended k is g c w))
       (congruent_extended k is (vanishes braid (suc p)) l (λ v. single (v ++ c ∷ [])) image g (all_congruent g n.least)));
 }
   where

@@ -7,12 +7,12 @@ use Rattle.std.proofs.lemmas.Bool.Decides.{Decides-eqb}
 use Rattle.nichols_field.specs.Field.{FieldValue, IsField, plus, times, negative}
 use Rattle.nichols_field.proofs.FieldLaws.{times_comm, times_assoc, times_plus, times_is_element, has_reciprocal}
 use Rattle.nichols_field.proofs.FieldAlgebra.{zero_plus, zero_times, one_times, negative_twice}
-use Rattle.nichols_tensor.specs.Combination.{Combination, value_at, HasSameValues, IsZero, AllAmong, single, scaled, minus, same_letters}
+use Rattle.nichols_tensor.specs.Combination.{Combination, value_at, HasSameValues, IsZero, AllAmong, single, scalar_multiple, minus, same_letters}
 use Rattle.nichols_tensor.specs.Words.{IsWordOver, words_before}
 use Rattle.nichols_tensor.specs.WordOrder.{IsRising}
-use Rattle.nichols_tensor.proofs.Values.{value_is_element, value_at-scaled, value_at-minus, value_at-extended, weight, weight_split, without, same_itself}
+use Rattle.nichols_tensor.proofs.Values.{value_is_element, value_at-scalar_multiple, value_at-minus, value_at-linear_map, weight, weight_split, without, same_itself}
 use Rattle.nichols_tensor.proofs.Linear.{same_from_minus}
-use Rattle.nichols_tensor.proofs.Enumeration.{among_weaker, among-append, among-scaled}
+use Rattle.nichols_tensor.proofs.Enumeration.{among_weaker, among-append, among-scalar_multiple}
 use Rattle.nichols_tensor.proofs.Entries.{contains_none}
 use Rattle.nichols_tensor.proofs.Rising.{in_middle, stands_before}
 use Rattle.nichols_tensor.proofs.AllWords.{in_words_before}
@@ -28,7 +28,7 @@ use Rattle.nichols_braid.proofs.Reduction.{from_basis, basis_rises}
 -- ---- one word and the others
 
 value_as_weight : (k : FieldValue) → IsField k → (f : Combination) (u : List ℕ) → value_at k f u ≡ weight k (λ v. value_at k (single v) u) f
-value_as_weight k is f u = sym (extended_identity k is f u) ∙ value_at-extended k is single f u
+value_as_weight k is f u = sym (extended_identity k is f u) ∙ value_at-linear_map k is single f u
 
 -- f is its value at w times w, and the terms of other words
 pub value_split : (k : FieldValue) → IsField k → (w : List ℕ) (f : Combination) (u : List ℕ) → value_at k f u ≡ plus k (times k (value_at k f w) (value_at k (single w) u)) (value_at k (without w f) u)
@@ -54,21 +54,21 @@ other_words w (t ∷ f) ws h = at (same_letters t.word w) refl (other_words w f 
 
 -- where f passes and its value at w has the reciprocal r, w is congruent to -r times the other terms
 congruent_to_others : (k : FieldValue) → IsField k → (test : Combination → Bool) → IsLinearTest k test → (w : List ℕ) (f : Combination) (r : ℕ) → times k (value_at k f w) r ≡ 1 → test f ≡ true →
-    AreCongruent k test (single w) (scaled k (times k (negative k 1) r) (without w f))
-congruent_to_others k is test l w f r e h = l.sees_values (scaled k r f) (minus k (single w) (scaled k (times k (negative k 1) r) (without w f))) values (l.keeps_multiples r f h)
+    AreCongruent k test (single w) (scalar_multiple k (times k (negative k 1) r) (without w f))
+congruent_to_others k is test l w f r e h = l.sees_values (scalar_multiple k r f) (minus k (single w) (scalar_multiple k (times k (negative k 1) r) (without w f))) values (l.keeps_multiples r f h)
   where
-    values : HasSameValues k (scaled k r f) (minus k (single w) (scaled k (times k (negative k 1) r) (without w f)))
+    values : HasSameValues k (scalar_multiple k r f) (minus k (single w) (scalar_multiple k (times k (negative k 1) r) (without w f)))
     values u =
         let n : ℕ = negative k 1 in
         let s : ℕ = value_at k (single w) u in
         let o : ℕ = value_at k (without w f) u in
         let c : ℕ = value_at k f w in
-        let left : value_at k (scaled k r f) u ≡ plus k s (times k r o) =
-        value_at-scaled k is r f u ∙ ap (times k r) (value_split k is w f u) ∙ times_plus k r (times k c s) o
+        let left : value_at k (scalar_multiple k r f) u ≡ plus k s (times k r o) =
+        value_at-scalar_multiple k is r f u ∙ ap (times k r) (value_split k is w f u) ∙ times_plus k r (times k c s) o
         ∙ ap (λ x. plus k x (times k r o)) (sym (times_assoc k r c s) ∙ ap (λ x. times k x s) (times_comm k r c ∙ e) ∙ one_times k s (value_is_element k is (single w) u)) in
-        let right : value_at k (minus k (single w) (scaled k (times k n r) (without w f))) u ≡ plus k s (times k r o) =
-        value_at-minus k is (single w) (scaled k (times k n r) (without w f)) u
-        ∙ ap (λ x. plus k s (times k n x)) (value_at-scaled k is (times k n r) (without w f) u ∙ times_assoc k n r o)
+        let right : value_at k (minus k (single w) (scalar_multiple k (times k n r) (without w f))) u ≡ plus k s (times k r o) =
+        value_at-minus k is (single w) (scalar_multiple k (times k n r) (without w f)) u
+        ∙ ap (λ x. plus k s (times k n x)) (value_at-scalar_multiple k is (times k n r) (without w f) u ∙ times_assoc k n r o)
         ∙ ap (plus k s) (negative_twice k (times k r o) is (times_is_element k r o is)) in
         left ∙ sym right
 
@@ -101,8 +101,8 @@ one_more vanishes braid is m l vs w us e independent f among h = at (nat_eq (val
     nonzero : value_at k f w ≢ 0 → IsZero k f
     nonzero some =
         let (r, element, reciprocal) = has_reciprocal k (value_at k f w) is (value_is_element k is f w) some in
-        absurd (least_refutes_at vanishes braid is m l w last.0 last.2 (scaled k (times k (negative k 1) r) (without w f))
-        (among-scaled k (times k (negative k 1) r) (without w f) (words_before braid.letters w) (among_weaker (without w f) vs (words_before braid.letters w) before others))
+        absurd (least_refutes_at vanishes braid is m l w last.0 last.2 (scalar_multiple k (times k (negative k 1) r) (without w f))
+        (among-scalar_multiple k (times k (negative k 1) r) (without w f) (words_before braid.letters w) (among_weaker (without w f) vs (words_before braid.letters w) before others))
         (congruent_to_others k is (vanishes braid m) l w f r reciprocal h))
 
     zero : value_at k f w ≡ 0 → IsZero k f
@@ -137,4 +137,4 @@ pub same_on_basis : (vanishes : Vanishing) (braid : BraidValue) → IsField brai
 same_on_basis vanishes braid is m l f g a b h =
     let ws : List (List ℕ) = basis vanishes braid m in
     same_from_minus braid.field is f g
-    (basis_is_independent vanishes braid is m l (minus braid.field f g) (among-append f (scaled braid.field (negative braid.field 1) g) ws a (among-scaled braid.field (negative braid.field 1) g ws b)) h)
+    (basis_is_independent vanishes braid is m l (minus braid.field f g) (among-append f (scalar_multiple braid.field (negative braid.field 1) g) ws a (among-scalar_multiple braid.field (negative braid.field 1) g ws b)) h)

@@ -4,20 +4,20 @@ use Rattle.std.specs.Prelude.{slice_index, replicate}
 use Rattle.std.specs.List.Sorted.{IsPermutation}
 use Rattle.std.proofs.lemmas.Bool.{cases_lt}
 use Rattle.std.proofs.lemmas.List.{drop-replicate, drop-set-lt, length-replicate, length-map, length-set, get_or-set_same, get_or-set_other, get_or-map, take_all, map-id}
-use Rattle.std.proofs.lemmas.List.Elements.{Contains-get_or}
-use Rattle.std.proofs.lemmas.List.Sorted.{IsPermutation-refl, IsPermutation-sym, IsPermutation-trans, IsPermutation-map, Contains-permutation, length_permutation}
+use Rattle.std.proofs.lemmas.List.Sorted.{IsPermutation-refl, IsPermutation-sym, IsPermutation-trans, IsPermutation-map}
 use Rattle.nichols_tensor.specs.Inline.{IsInline, length_kept}
 use Rattle.nichols_tensor.specs.Words.{up_to, IsLetterOf}
 use Rattle.nichols_tensor.proofs.Letters.{from_up_to, up_to_length}
 use Rattle.nichols_tensor.proofs.Tests.{map_same}
 use Rattle.nichols_braid.specs.Braid.{BraidValue, IsLetter, IsBraid, IsRack, act}
-use Rattle.nichols_braid.specs.Product.{moved, product_of, product_after, product_before, unact, IsProduct}
+use Rattle.nichols_braid.specs.Product.{product_image, product_of, product_after, product_before, unact, IsProduct}
 use Rattle.nichols_braid.specs.Rearrangement.{IsRearrangement}
 use Rattle.nichols_braid.specs.declared.product.TheConstants.{ROOM}
 use Rattle.nichols_braid.proofs.AtLetters.{taken}
 use Rattle.nichols_braid.proofs.Lists.{map-map}
 use Rattle.nichols_braid.proofs.Onto.{acted_rearranges, unact_is_before, image_at, up_to_at}
-use Rattle.nichols_braid.proofs.KeptProducts.{moved-append}
+use Rattle.nichols_braid.proofs.KeptProducts.{product_image-append}
+use Rattle.nichols_braid.proofs.Rearranged.{rearranged_length}
 
 -- ---- arrays with zeros behind n entries
 
@@ -36,18 +36,11 @@ inline_product n xs g few h e is = record { short = few; whole = h.whole; padded
 
 -- ---- products
 
-pub same_size : (n : ℕ) (g : List ℕ) → IsRearrangement n g → length g ≡ n
-same_size n g h = length_permutation (up_to n) g h ∙ up_to_length n
-
 pub is_product : (n : ℕ) (g : List ℕ) → 1 ≤ n → IsRearrangement n g → IsProduct g
-is_product n g least h = subst (λ k. (1 ≤ k) × IsRearrangement k g) (sym (same_size n g h)) (least, h)
+is_product n g least h = subst (λ k. (1 ≤ k) × IsRearrangement k g) (sym (rearranged_length n g h)) (least, h)
 
 pub identity_is_product : (n : ℕ) → 1 ≤ n → IsProduct (up_to n)
 identity_is_product n least = is_product n (up_to n) least (IsPermutation-refl (up_to n))
-
--- the images are letters
-pub image_is_letter : (n : ℕ) (g : List ℕ) (k : ℕ) → IsRearrangement n g → k < n → IsLetterOf n (slice_index g k)
-image_is_letter n g k h less = from_up_to n (slice_index g k) (Contains-permutation g (up_to n) (slice_index g k) (IsPermutation-sym (up_to n) g h) (Contains-get_or g k 0 (rw (same_size n g h) less)))
 
 -- a list of n numbers is its entries at the letters
 at_letters : (n : ℕ) (g : List ℕ) → length g ≡ n → map (λ k. slice_index g (k - 1)) (up_to n) ≡ g
@@ -55,7 +48,7 @@ at_letters n g size =
     sym (taken g (λ k. slice_index g (k - 1)) n (omega arith) (λ k less. ap (slice_index g) (let e : k ≡ suc k - 1 = omega arith in e))) ∙ take_all n g (omega arith)
 
 -- the value of f at a letter, in the list of its values
-value_at_letter : (n : ℕ) (f : ℕ → ℕ) (c : ℕ) → IsLetterOf n c → slice_index (map f (up_to n)) (c - 1) ≡ f c
+pub value_at_letter : (n : ℕ) (f : ℕ → ℕ) (c : ℕ) → IsLetterOf n c → slice_index (map f (up_to n)) (c - 1) ≡ f c
 value_at_letter n f c l =
     let size : length (up_to n) ≡ n = up_to_length n in
     let back : suc (c - 1) ≡ c = omega (arith, l.0) in
@@ -66,7 +59,7 @@ after_rearranged : (n : ℕ) (g : List ℕ) (f : ℕ → ℕ) → IsRearrangemen
 after_rearranged n g f h r =
     let at : ℕ → ℕ = λ k. slice_index g (k - 1) in
     let images : IsPermutation (map at (up_to n)) (map at (map f (up_to n))) = IsPermutation-map at (up_to n) (map f (up_to n)) r in
-    subst (IsPermutation (up_to n)) (map-map at f (up_to n)) (IsPermutation-trans (up_to n) g (map at (map f (up_to n))) h (subst (λ xs. IsPermutation xs (map at (map f (up_to n)))) (at_letters n g (same_size n g h)) images))
+    subst (IsPermutation (up_to n)) (map-map at f (up_to n)) (IsPermutation-trans (up_to n) g (map at (map f (up_to n))) h (subst (λ xs. IsPermutation xs (map at (map f (up_to n)))) (at_letters n g (rearranged_length n g h)) images))
 
 pub after_is_rearrangement : (braid : BraidValue) → IsRack braid → (a : ℕ) → IsLetter braid a → (g : List ℕ) → IsRearrangement braid.letters g → IsRearrangement braid.letters (product_after braid a g)
 unfolding product_after
@@ -87,20 +80,20 @@ pub before_is_rearrangement : (braid : BraidValue) → IsRack braid → (a : ℕ
 unfolding product_before
 before_is_rearrangement braid rack a la g h = after_rearranged braid.letters g (unact braid a) h (unacted_rearranges braid rack a la)
 
-images_of_word : (braid : BraidValue) (v : List ℕ) → map (moved braid v) (up_to braid.letters) ≡ product_of braid v
+images_of_word : (braid : BraidValue) (v : List ℕ) → map (product_image braid v) (up_to braid.letters) ≡ product_of braid v
 unfolding product_of
 images_of_word braid v = refl
 
 pub product_size : (braid : BraidValue) (w : List ℕ) → length (product_of braid w) ≡ braid.letters
 unfolding product_of
-product_size braid w = length-map (up_to braid.letters) (moved braid w) ∙ up_to_length braid.letters
+product_size braid w = length-map (up_to braid.letters) (product_image braid w) ∙ up_to_length braid.letters
 
 -- the product of a word with a letter behind, from that of the word
 pub after_a_word : (braid : BraidValue) → IsRack braid → (a : ℕ) → IsLetter braid a → (w : List ℕ) → product_after braid a (product_of braid w) ≡ product_of braid (w ++ a ∷ [])
 unfolding product_after
 after_a_word braid rack a la w =
-    map_same (λ j. slice_index (product_of braid w) (act braid a j - 1)) (moved braid (w ++ a ∷ [])) (up_to braid.letters)
-    (λ j i. image_at braid w (act braid a j) (rack.closed a j la (from_up_to braid.letters j i)) ∙ sym (moved-append braid w (a ∷ []) j))
+    map_same (λ j. slice_index (product_of braid w) (act braid a j - 1)) (product_image braid (w ++ a ∷ [])) (up_to braid.letters)
+    (λ j i. image_at braid w (act braid a j) (rack.closed a j la (from_up_to braid.letters j i)) ∙ sym (product_image-append braid w (a ∷ []) j))
     ∙ images_of_word braid (w ++ a ∷ [])
 
 -- a list of images before a letter, and after it again

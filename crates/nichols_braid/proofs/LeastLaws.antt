@@ -1,24 +1,18 @@
 -- The laws of least words, bases, normal forms and candidates, each as its statement has it.
-use Rattle.std.proofs.Common.{◌≡◌, ℕ, suc, true, not, List, [], ◌∷◌, map, length, refl, sym, ◌∙◌, ap, subst}
+use Rattle.std.proofs.Common.{◌≡◌, ℕ, true, not, List, [], ◌∷◌, map, length, refl, sym, ◌∙◌, ap, subst}
 use Rattle.std.specs.List.{filter}
-use Rattle.nichols_tensor.specs.Combination.{Combination}
 use Rattle.nichols_tensor.specs.Words.{IsWordOver}
 use Rattle.nichols_tensor.specs.WordOrder.{IsRising}
 use Rattle.nichols_tensor.proofs.Rising.{rising-filter}
-use Rattle.nichols_braid.specs.Braid.{BraidValue, IsBraid, IsLetter}
-use Rattle.nichols_braid.specs.Kernel.{is_killed}
 use Rattle.nichols_braid.specs.Least.{is_least, candidates}
-use Rattle.nichols_braid.specs.RightProduct.{times_letter}
 use Rattle.nichols_braid.specs.LinearTest.{IsLinearTest}
-use Rattle.nichols_braid.specs.LeastLaws.{LeastWordsAreTested, IsListedIfLeast, BasisHasLeastWords, BasisIsIndependent, NormalFormsAreUnique, NormalFormsTellClasses, ZeroHasNoTerms, NormalFormIsLinear, LeastWordsAreNormal, AgreeingTestsReadAlike, BasisIsAmongCandidates, RelationsRise}
-use Rattle.nichols_braid.proofs.Killed.{is_killed_sound, is_killed_complete, killed-times_letter}
-use Rattle.nichols_braid.proofs.Prefixes.{is_killed_is_ideal}
+use Rattle.nichols_braid.specs.LeastLaws.{LeastWordsAreTested, IsListedIfLeast, BasisHasLeastWords, LeastWordsAreIndependent, NormalFormsAreUnique, NormalFormsTellClasses, ZeroHasNoTerms, NormalFormIsLinear, LeastWordsAreNormal, AgreeingTestsReadAlike, BasisIsAmongCandidates, RelationsRise}
 use Rattle.nichols_braid.proofs.LeastWords.{least_word_from_test, test_from_least_word}
 use Rattle.nichols_braid.proofs.Reduction.{in_basis, from_basis, basis_rises}
 use Rattle.nichols_braid.proofs.Independence.{basis_is_independent}
 use Rattle.nichols_braid.proofs.NormalForms.{form_is_normal, form_is, form_of_class, class_of_form, form_of_zero, zero_of_form, form_is_linear, form_of_least}
 use Rattle.nichols_braid.proofs.Candidates.{candidates_rise, relation_at, relations_are}
-use Rattle.nichols_braid.proofs.Spanning.{IsSpanning, candidates_span, basis_among}
+use Rattle.nichols_braid.proofs.Spanning.{candidates_span, basis_among}
 use Rattle.nichols_braid.proofs.Agreement.{read_alike}
 
 pub least_words_are_tested : LeastWordsAreTested
@@ -37,7 +31,7 @@ basis_has_least_words vanishes braid is m l = (basis_rises vanishes braid m, lis
           least_word_from_test vanishes braid is w (subst (λ d. IsLinearTest braid.field (vanishes braid d)) (sym from.0) l) from.2;
     }
 
-pub least_words_are_independent : BasisIsIndependent
+pub least_words_are_independent : LeastWordsAreIndependent
 least_words_are_independent vanishes braid is m l f among h = basis_is_independent vanishes braid is m l f among h
 
 pub normal_forms_are_unique : NormalFormsAreUnique
@@ -71,10 +65,3 @@ relations_rise vanishes braid m =
     words (w ∷ ws) = ap (λ vs. w ∷ vs) (words ws)
 
 -- ---- what the derivations kill
-
-pub killed_stays_killed : (braid : BraidValue) → IsBraid braid → (m : ℕ) (f : Combination) (b : ℕ) → IsLetter braid b → is_killed braid m f ≡ true → is_killed braid (suc m) (times_letter f b) ≡ true
-killed_stays_killed braid is m f b letter h =
-    is_killed_complete braid (suc m) (times_letter f b) (killed-times_letter braid is.field is.rack m f b letter (is_killed_sound braid is.field m f h))
-
-pub killed_candidates_span : (braid : BraidValue) → IsBraid braid → (m : ℕ) → IsSpanning is_killed braid m (candidates is_killed braid m)
-killed_candidates_span braid is m = candidates_span is_killed braid is.field (is_killed_is_ideal braid is.field is.rack) m

@@ -5,9 +5,9 @@ use Rattle.std.proofs.lemmas.List.{map-append}
 use Rattle.nichols_field.specs.Field.{FieldValue, IsField, IsElement, plus, times, negative}
 use Rattle.nichols_field.proofs.FieldLaws.{plus_comm, plus_zero, times_plus, times_comm, times_zero, plus_is_element, zero_is_element}
 use Rattle.nichols_field.proofs.FieldAlgebra.{one_times, swap_middle, swap_factors}
-use Rattle.nichols_tensor.specs.Combination.{Combination, value_at, HasSameValues, IsZero, single, scaled, extended, same_letters, minus}
-use Rattle.nichols_tensor.proofs.Values.{value_is_element, value_at-append, value_at-scaled, weight, value_at-extended}
-use Rattle.nichols_tensor.proofs.Linear.{extended-append, extended-scaled, extended_is_zero, same_images, same_append}
+use Rattle.nichols_tensor.specs.Combination.{Combination, value_at, HasSameValues, IsZero, single, scalar_multiple, linear_map, same_letters, minus}
+use Rattle.nichols_tensor.proofs.Values.{value_is_element, value_at-append, value_at-scalar_multiple, weight, value_at-linear_map}
+use Rattle.nichols_tensor.proofs.Linear.{linear_map-append, linear_map-scalar_multiple, extended_is_zero, same_images, same_append}
 use Rattle.nichols_braid.specs.RightProduct.{times_letter}
 
 -- ---- weights
@@ -41,47 +41,47 @@ weight-times k is c φ (t ∷ f) =
 -- ---- maps that agree on the words that occur
 
 pub extended_same_on : (k : FieldValue) → IsField k → (image other : List ℕ → Combination) (f : Combination) → AllByRecursion (λ t. HasSameValues k (image t.word) (other t.word)) f →
-    HasSameValues k (extended k image f) (extended k other f)
+    HasSameValues k (linear_map k image f) (linear_map k other f)
 extended_same_on k is image other f h w =
-    value_at-extended k is image f w ∙ same_weight_on k (λ v. value_at k (image v) w) (λ v. value_at k (other v) w) f (at f h) ∙ sym (value_at-extended k is other f w)
+    value_at-linear_map k is image f w ∙ same_weight_on k (λ v. value_at k (image v) w) (λ v. value_at k (other v) w) f (at f h) ∙ sym (value_at-linear_map k is other f w)
   where
     at : (g : Combination) → AllByRecursion (λ t. HasSameValues k (image t.word) (other t.word)) g → AllByRecursion (λ t. value_at k (image t.word) w ≡ value_at k (other t.word) w) g
     at [] h = tt
     at (t ∷ g) h = (h.0 w, at g h.1)
 
-pub extended_same : (k : FieldValue) → IsField k → (image other : List ℕ → Combination) (f : Combination) → ((v : List ℕ) → HasSameValues k (image v) (other v)) → HasSameValues k (extended k image f) (extended k other f)
+pub extended_same : (k : FieldValue) → IsField k → (image other : List ℕ → Combination) (f : Combination) → ((v : List ℕ) → HasSameValues k (image v) (other v)) → HasSameValues k (linear_map k image f) (linear_map k other f)
 extended_same k is image other f h = extended_same_on k is image other f (everywhere (λ t. HasSameValues k (image t.word) (other t.word)) f (λ t. h t.word))
 
 -- ---- sums, multiples and composites
 
-pub extended-sum : (k : FieldValue) → IsField k → (image other : List ℕ → Combination) (f : Combination) →
-    HasSameValues k (extended k (λ v. image v ++ other v) f) (extended k image f ++ extended k other f)
-extended-sum k is image other f w =
-    value_at-extended k is (λ v. image v ++ other v) f w
+pub linear_map-sum : (k : FieldValue) → IsField k → (image other : List ℕ → Combination) (f : Combination) →
+    HasSameValues k (linear_map k (λ v. image v ++ other v) f) (linear_map k image f ++ linear_map k other f)
+linear_map-sum k is image other f w =
+    value_at-linear_map k is (λ v. image v ++ other v) f w
     ∙ same_weight_on k (λ v. value_at k (image v ++ other v) w) (λ v. plus k (value_at k (image v) w) (value_at k (other v) w)) f
     (everywhere (λ t. value_at k (image t.word ++ other t.word) w ≡ plus k (value_at k (image t.word) w) (value_at k (other t.word) w)) f (λ t. value_at-append k is (image t.word) (other t.word) w))
     ∙ weight-plus k is (λ v. value_at k (image v) w) (λ v. value_at k (other v) w) f
-    ∙ ap (λ n. plus k n (weight k (λ v. value_at k (other v) w) f)) (sym (value_at-extended k is image f w))
-    ∙ ap (plus k (value_at k (extended k image f) w)) (sym (value_at-extended k is other f w))
-    ∙ sym (value_at-append k is (extended k image f) (extended k other f) w)
+    ∙ ap (λ n. plus k n (weight k (λ v. value_at k (other v) w) f)) (sym (value_at-linear_map k is image f w))
+    ∙ ap (plus k (value_at k (linear_map k image f) w)) (sym (value_at-linear_map k is other f w))
+    ∙ sym (value_at-append k is (linear_map k image f) (linear_map k other f) w)
 
-pub extended-multiple : (k : FieldValue) → IsField k → (c : ℕ) (image : List ℕ → Combination) (f : Combination) →
-    HasSameValues k (extended k (λ v. scaled k c (image v)) f) (scaled k c (extended k image f))
-extended-multiple k is c image f w =
-    value_at-extended k is (λ v. scaled k c (image v)) f w
-    ∙ same_weight_on k (λ v. value_at k (scaled k c (image v)) w) (λ v. times k c (value_at k (image v) w)) f
-    (everywhere (λ t. value_at k (scaled k c (image t.word)) w ≡ times k c (value_at k (image t.word) w)) f (λ t. value_at-scaled k is c (image t.word) w))
+pub linear_map-multiple : (k : FieldValue) → IsField k → (c : ℕ) (image : List ℕ → Combination) (f : Combination) →
+    HasSameValues k (linear_map k (λ v. scalar_multiple k c (image v)) f) (scalar_multiple k c (linear_map k image f))
+linear_map-multiple k is c image f w =
+    value_at-linear_map k is (λ v. scalar_multiple k c (image v)) f w
+    ∙ same_weight_on k (λ v. value_at k (scalar_multiple k c (image v)) w) (λ v. times k c (value_at k (image v) w)) f
+    (everywhere (λ t. value_at k (scalar_multiple k c (image t.word)) w ≡ times k c (value_at k (image t.word) w)) f (λ t. value_at-scalar_multiple k is c (image t.word) w))
     ∙ weight-times k is c (λ v. value_at k (image v) w) f
-    ∙ ap (times k c) (sym (value_at-extended k is image f w))
-    ∙ sym (value_at-scaled k is c (extended k image f) w)
+    ∙ ap (times k c) (sym (value_at-linear_map k is image f w))
+    ∙ sym (value_at-scalar_multiple k is c (linear_map k image f) w)
 
-pub extended-extended : (k : FieldValue) → IsField k → (image other : List ℕ → Combination) (f : Combination) →
-    HasSameValues k (extended k other (extended k image f)) (extended k (λ v. extended k other (image v)) f)
-extended-extended k is image other [] w = refl
-extended-extended k is image other (t ∷ f) w =
-    ap (λ g. value_at k g w) (extended-append k other (scaled k t.coefficient (image t.word)) (extended k image f))
-    ∙ same_append k is (extended k other (scaled k t.coefficient (image t.word))) (extended k other (extended k image f)) (scaled k t.coefficient (extended k other (image t.word))) (extended k (λ v. extended k other (image v)) f)
-    (extended-scaled k is other t.coefficient (image t.word)) (extended-extended k is image other f) w
+pub linear_map-linear_map : (k : FieldValue) → IsField k → (image other : List ℕ → Combination) (f : Combination) →
+    HasSameValues k (linear_map k other (linear_map k image f)) (linear_map k (λ v. linear_map k other (image v)) f)
+linear_map-linear_map k is image other [] w = refl
+linear_map-linear_map k is image other (t ∷ f) w =
+    ap (λ g. value_at k g w) (linear_map-append k other (scalar_multiple k t.coefficient (image t.word)) (linear_map k image f))
+    ∙ same_append k is (linear_map k other (scalar_multiple k t.coefficient (image t.word))) (linear_map k other (linear_map k image f)) (scalar_multiple k t.coefficient (linear_map k other (image t.word))) (linear_map k (λ v. linear_map k other (image v)) f)
+    (linear_map-scalar_multiple k is other t.coefficient (image t.word)) (linear_map-linear_map k is image other f) w
 
 pub same_commuted : (k : FieldValue) → IsField k → (f g : Combination) → HasSameValues k (f ++ g) (g ++ f)
 same_commuted k is f g w = value_at-append k is f g w ∙ plus_comm k (value_at k f w) (value_at k g w) ∙ sym (value_at-append k is g f w)
@@ -101,22 +101,22 @@ chosen_times_one k is false c n e = refl
 pub reworded : (List ℕ → List ℕ) → Combination → Combination
 reworded word f = map (λ t. record { word = word t.word; coefficient = t.coefficient }) f
 
-reworded_is_extended : (k : FieldValue) → IsField k → (word : List ℕ → List ℕ) (f : Combination) → HasSameValues k (reworded word f) (extended k (λ v. single (word v)) f)
+reworded_is_extended : (k : FieldValue) → IsField k → (word : List ℕ → List ℕ) (f : Combination) → HasSameValues k (reworded word f) (linear_map k (λ v. single (word v)) f)
 unfolding reworded
 reworded_is_extended k is word [] w = refl
 reworded_is_extended k is word (t ∷ f) w =
     ap (plus k (cond (same_letters (word t.word) w) t.coefficient 0)) (reworded_is_extended k is word f w)
-    ∙ sym (chosen_times_one k is (same_letters (word t.word) w) t.coefficient (value_at k (extended k (λ v. single (word v)) f) w) (value_is_element k is (extended k (λ v. single (word v)) f) w))
+    ∙ sym (chosen_times_one k is (same_letters (word t.word) w) t.coefficient (value_at k (linear_map k (λ v. single (word v)) f) w) (value_is_element k is (linear_map k (λ v. single (word v)) f) w))
 
 reworded_same : (word : List ℕ → List ℕ) → ((v : List ℕ) → word v ≡ v) → (f : Combination) → reworded word f ≡ f
 unfolding reworded
 reworded_same word h [] = refl
 reworded_same word h (t ∷ f) = ap (λ v. record { word = v; coefficient = t.coefficient } ∷ reworded word f) (h t.word) ∙ ap (λ r. t ∷ r) (reworded_same word h f)
 
-pub extended_identity : (k : FieldValue) → IsField k → (f : Combination) → HasSameValues k (extended k single f) f
+pub extended_identity : (k : FieldValue) → IsField k → (f : Combination) → HasSameValues k (linear_map k single f) f
 extended_identity k is f w = sym (reworded_is_extended k is (λ v. v) f w) ∙ ap (λ g. value_at k g w) (reworded_same (λ v. v) (λ v. refl) f)
 
-pub times_letter_is_extended : (k : FieldValue) → IsField k → (f : Combination) (b : ℕ) → HasSameValues k (times_letter f b) (extended k (λ v. single (v ++ b ∷ [])) f)
+pub times_letter_is_extended : (k : FieldValue) → IsField k → (f : Combination) (b : ℕ) → HasSameValues k (times_letter f b) (linear_map k (λ v. single (v ++ b ∷ [])) f)
 unfolding reworded
 times_letter_is_extended k is f b = reworded_is_extended k is (λ v. v ++ b ∷ []) f
 
@@ -130,9 +130,9 @@ times_letter_is_zero k is f b h w = times_letter_is_extended k is f b w ∙ exte
 pub times_letter-append : (f g : Combination) (b : ℕ) → times_letter (f ++ g) b ≡ times_letter f b ++ times_letter g b
 times_letter-append f g b = map-append (λ t. record { word = t.word ++ b ∷ []; coefficient = t.coefficient }) f g
 
-pub times_letter-scaled : (k : FieldValue) (c : ℕ) (f : Combination) (b : ℕ) → times_letter (scaled k c f) b ≡ scaled k c (times_letter f b)
-times_letter-scaled k c [] b = refl
-times_letter-scaled k c (t ∷ f) b = ap (λ r. record { word = t.word ++ b ∷ []; coefficient = times k c t.coefficient } ∷ r) (times_letter-scaled k c f b)
+pub times_letter-scalar_multiple : (k : FieldValue) (c : ℕ) (f : Combination) (b : ℕ) → times_letter (scalar_multiple k c f) b ≡ scalar_multiple k c (times_letter f b)
+times_letter-scalar_multiple k c [] b = refl
+times_letter-scalar_multiple k c (t ∷ f) b = ap (λ r. record { word = t.word ++ b ∷ []; coefficient = times k c t.coefficient } ∷ r) (times_letter-scalar_multiple k c f b)
 
 pub times_letter-minus : (k : FieldValue) (f g : Combination) (b : ℕ) → times_letter (minus k f g) b ≡ minus k (times_letter f b) (times_letter g b)
-times_letter-minus k f g b = times_letter-append f (scaled k (negative k 1) g) b ∙ ap (λ h. times_letter f b ++ h) (times_letter-scaled k (negative k 1) g b)
+times_letter-minus k f g b = times_letter-append f (scalar_multiple k (negative k 1) g) b ∙ ap (λ h. times_letter f b ++ h) (times_letter-scalar_multiple k (negative k 1) g b)

@@ -21,6 +21,7 @@ use Rattle.nichols_braid.proofs.TestedTables.{differ, nonzero_at}
 use Rattle.nichols_braid.proofs.FirstAnswers.{no_triple_answers, first_letter, first_triples_are_least}
 use Rattle.nichols_braid.proofs.FirstPlaces.{no_letter_answers, no_pair_answers, IsFirstPair, pair_is}
 use Rattle.nichols_braid.proofs.GivenRows.{passes, none_before_map, row_there, no_row_above, count_fits, letter_is, letter_passes}
+use Rattle.std.proofs.lemmas.Option.{cond_some}
 
 -- ---- the order of places
 
@@ -107,10 +108,6 @@ kind_positive (not_cocycle i j k left right) = omega arith
 wrong_by_test : {X : Type 0} (b : Bool) (x y : X) → cond b None (Some x) ≡ Some y → (b ≡ false) × (x ≡ y)
 wrong_by_test true x y e = cc
 wrong_by_test false x y e = (refl, cc)
-
-right_by_test : {X : Type 0} (b : Bool) (x y : X) → cond b (Some x) None ≡ Some y → (b ≡ true) × (x ≡ y)
-right_by_test true x y e = (refl, cc)
-right_by_test false x y e = cc
 
 some_before_map : {X Y : Type 0} (f : X → Y) (o : Option X) (y : Y) → option_map f o ≡ Some y → (x : X) × (o ≡ Some x) × (f x ≡ y)
 some_before_map f None y e = cc
@@ -285,7 +282,7 @@ search_bijection k rows given = record { found = found; missed = missed }
     found : (fault : TableFault) → bijection_fault (given_rack rows) ≡ Some fault → IsFound k rows given 4 fault
     found fault e =
         let p : IsFirstTriple (length rows) (bijection_fault_at (given_rack rows)) fault = ((first_triples_are_least TableFault (length rows) (bijection_fault_at (given_rack rows))).0 fault).0 e in
-        let (wrong, same) = right_by_test (nat_lt p.j p.k && nat_eq (image (given_rack rows) p.i p.j) (image (given_rack rows) p.i p.k)) (not_bijective p.i p.j p.k (image (given_rack rows) p.i p.j)) fault p.answers in
+        let (wrong, same) = cond_some (nat_lt p.j p.k && nat_eq (image (given_rack rows) p.i p.j) (image (given_rack rows) p.i p.k)) (not_bijective p.i p.j p.k (image (given_rack rows) p.i p.j)) fault p.answers in
         let less : nat_lt p.j p.k ≡ true = first_so (nat_lt p.j p.k) _ wrong in
         let equal : nat_eq (image (given_rack rows) p.i p.j) (image (given_rack rows) p.i p.k) ≡ true = second_so (nat_lt p.j p.k) _ wrong in
         subst (IsFound k rows given 4) same (record {
@@ -341,7 +338,7 @@ search_zero k rows given = record { found = found; missed = missed }
     found : (fault : TableFault) → zero_fault (given_tables k rows given) ≡ Some fault → IsFound k rows given 7 fault
     found fault e =
         let p : IsFirstPair (length rows) (zero_fault_at (given_tables k rows given)) fault = pair_is (length rows) (zero_fault_at (given_tables k rows given)) fault e in
-        let (wrong, same) = right_by_test (nat_eq (scalar (given_tables k rows given) p.i p.j) 0) (cocycle_zero p.i p.j) fault p.answers in
+        let (wrong, same) = cond_some (nat_eq (scalar (given_tables k rows given) p.i p.j) 0) (cocycle_zero p.i p.j) fault p.answers in
         subst (IsFound k rows given 7) same (record { holds = (p.first, p.second, (Decides-eqb _ _).0 wrong); same = refl; least = least fault p })
 
     missed : zero_fault (given_tables k rows given) ≡ None → (other : TableFault) → kind_of other ≡ 7 → Holds k rows given other → ⊥

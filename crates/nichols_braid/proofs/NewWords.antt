@@ -1,6 +1,5 @@
 -- New words: they are candidates, and each least word is one.
-use Rattle.std.proofs.Common.{◌≡◌, ℕ, suc, Bool, true, false, List, [], ◌∷◌, ◌++◌, map, length, take, drop, refl, sym, ◌∙◌, ap, subst, arith}
-use Rattle.std.specs.Prelude.{◌&&◌}
+use Rattle.std.proofs.Common.{◌≡◌, ℕ, suc, true, List, [], ◌∷◌, ◌++◌, map, length, take, drop, refl, sym, ◌∙◌, ap, subst, arith}
 use Rattle.std.specs.List.{filter, Contains}
 use Rattle.std.specs.Cmp.Derive.{both_true}
 use Rattle.std.proofs.lemmas.List.{take-append-drop}
@@ -24,6 +23,7 @@ use Rattle.nichols_braid.proofs.Prefixes.{prefix_is_least}
 use Rattle.nichols_braid.proofs.Reduction.{in_basis, from_basis, basis_rises}
 use Rattle.nichols_braid.proofs.Spanning.{split_last}
 use Rattle.nichols_braid.proofs.Suffixes.{suffix_is_least}
+use Rattle.std.proofs.lemmas.Bool.{and_parts}
 
 pub least_is_new : (vanishes : Vanishing) (braid : BraidValue) → IsField braid.field → IsRightIdealTest braid (vanishes braid) → IsLeftIdealTest braid (vanishes braid) →
     (w : List ℕ) → IsWordOver braid.letters w → is_least vanishes braid w ≡ true → is_new vanishes braid w ≡ true
@@ -85,10 +85,6 @@ new_words_second vanishes braid least =
 
 -- ---- new words are candidates
 
-both_hold : (a b : Bool) → (a && b) ≡ true → (a ≡ true) × (b ≡ true)
-both_hold true b h = (refl, h)
-both_hold false b h = cc
-
 -- the letters before the last one
 pub front_of : (a : ℕ) (w u : List ℕ) (b : ℕ) → a ∷ w ≡ u ++ b ∷ [] → take (length w) (a ∷ w) ≡ u
 front_of a w u b e =
@@ -102,7 +98,7 @@ new_is_candidate vanishes braid m [] size over new = absurd (omega arith)
 new_is_candidate vanishes braid m (a ∷ w) size over new =
     let (u, b, e) = split_last m (a ∷ w) size in
     let whole : IsWordOver braid.letters (u ++ b ∷ []) = subst (IsWordOver braid.letters) e over in
-    let both : (is_least vanishes braid (take (length w) (a ∷ w)) ≡ true) × (is_least vanishes braid w ≡ true) = both_hold (is_least vanishes braid (take (length w) (a ∷ w))) (is_least vanishes braid w) new in
+    let both : (is_least vanishes braid (take (length w) (a ∷ w)) ≡ true) × (is_least vanishes braid w ≡ true) = and_parts (is_least vanishes braid (take (length w) (a ∷ w))) (is_least vanishes braid w) new in
     let count : suc (length u) ≡ suc m = sym (pushed_length u b) ∙ ap length (sym e) ∙ size in
     let before : Contains (basis vanishes braid m) u = in_basis vanishes braid m u (omega arith) (word_over_front braid.letters u (b ∷ []) whole) (ap (is_least vanishes braid) (sym (front_of a w u b e)) ∙ both.0) in
     (subst (λ v. Contains (candidates vanishes braid (suc m)) v) (sym e) (in_candidates vanishes braid m u b before (word_over_back braid.letters u (b ∷ []) whole).0), both.1)

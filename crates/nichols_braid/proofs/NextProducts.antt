@@ -1,8 +1,7 @@
 -- The products of the words of one letter more: those of the words, each followed by each letter.
-use Rattle.std.proofs.Common.{◌≡◌, ℕ, zero, suc, ◌+◌, ◌<◌, ◌≤◌, List, [], ◌∷◌, ◌++◌, map, length, take, drop, refl, sym, ◌∙◌, ap, ap₂, subst, arith, append-nil, append_assoc, take-append-drop, inl, inr}
+use Rattle.std.proofs.Common.{◌≡◌, ℕ, zero, suc, ◌+◌, ◌<◌, ◌≤◌, List, [], ◌∷◌, ◌++◌, map, length, take, drop, refl, sym, ◌∙◌, ap, subst, arith, append-nil, append_assoc, take-append-drop}
 use Rattle.std.specs.List.{flat_map, Contains}
 use Rattle.std.proofs.Math.Seq.{take-suc}
-use Rattle.std.proofs.lemmas.Bool.{cases_lt}
 use Rattle.std.proofs.lemmas.Grind.{flat_map-append}
 use Rattle.std.proofs.lemmas.List.{map-append}
 use Rattle.nichols_tensor.specs.Positions.{word_at}
@@ -15,29 +14,14 @@ use Rattle.nichols_braid.specs.Product.{product_of, product_after}
 use Rattle.nichols_braid.specs.Products.{each_once, products}
 use Rattle.nichols_braid.proofs.EachOnce.{once_followed, from_each_once, each_once_grows, flat_map-push}
 use Rattle.nichols_braid.proofs.InlineProducts.{after_a_word, product_size}
-use Rattle.nichols_braid.proofs.Lists.{map-map}
+use Rattle.nichols_braid.proofs.Lists.{map-map, map-flat_map, flat_map-map, flat_map-flat_map, same_flat_map}
+use Rattle.nichols_braid.proofs.Search.{up_to-prefix}
 
 -- the products after each letter
 abbrev pub followed : BraidValue → List ℕ → List (List ℕ)
 followed braid g = map (λ a. product_after braid a g) (up_to braid.letters)
 
 -- ---- words
-
-map-flat_map : {X Y Z : Type 0} (f : Y → Z) (g : X → List Y) (xs : List X) → map f (flat_map g xs) ≡ flat_map (λ x. map f (g x)) xs
-map-flat_map f g [] = refl
-map-flat_map f g (x ∷ xs) = map-append f (g x) (flat_map g xs) ∙ ap (λ l. map f (g x) ++ l) (map-flat_map f g xs)
-
-flat_map-map : {X Y Z : Type 0} (f : Y → List Z) (g : X → Y) (xs : List X) → flat_map f (map g xs) ≡ flat_map (λ x. f (g x)) xs
-flat_map-map f g [] = refl
-flat_map-map f g (x ∷ xs) = ap (λ l. f (g x) ++ l) (flat_map-map f g xs)
-
-flat_map-flat_map : {X Y Z : Type 0} (f : Y → List Z) (g : X → List Y) (xs : List X) → flat_map f (flat_map g xs) ≡ flat_map (λ x. flat_map f (g x)) xs
-flat_map-flat_map f g [] = refl
-flat_map-flat_map f g (x ∷ xs) = flat_map-append f (g x) (flat_map g xs) ∙ ap (λ l. flat_map f (g x) ++ l) (flat_map-flat_map f g xs)
-
-same_flat_map : {X Y : Type 0} (f g : X → List Y) → ((x : X) → f x ≡ g x) → (xs : List X) → flat_map f xs ≡ flat_map g xs
-same_flat_map f g e [] = refl
-same_flat_map f g e (x ∷ xs) = ap₂ (λ l r. l ++ r) (e x) (same_flat_map f g e xs)
 
 with_letters-prefixed : (n a : ℕ) (ws : List (List ℕ)) → with_letters n (map (λ w. a ∷ w) ws) ≡ map (λ w. a ∷ w) (with_letters n ws)
 with_letters-prefixed n a ws =
@@ -87,14 +71,6 @@ products_size braid m g i = let (w, j, e) = from_map (product_of braid) g (words
 
 -- ---- step by step
 
-up_to_goes_on : (k n : ℕ) → k ≤ n → (rest : List ℕ) × (up_to n ≡ up_to k ++ rest)
-up_to_goes_on k zero h = ([], let e : k ≡ 0 = omega arith in ap up_to (sym e) ∙ sym (append-nil (up_to k)))
-up_to_goes_on k (suc n) h =
-    elim (cases_lt k (suc n)) [
-      | inl less ↦ let (rest, e) = up_to_goes_on k n (omega arith) in (rest ++ suc n ∷ [], ap (λ l. l ++ suc n ∷ []) e ∙ append_assoc (up_to k) rest (suc n ∷ []))
-      | inr all ↦ ([], let e : k ≡ suc n = omega arith in ap up_to (sym e) ∙ sym (append-nil (up_to k)))
-    ]
-
 -- one letter more
 pub followed_more : (f : ℕ → List ℕ) (gs : List (List ℕ)) (a : ℕ) (h : List ℕ) → h ≡ f (a + 1) → (gs ++ map f (up_to a)) ++ h ∷ [] ≡ gs ++ map f (up_to (a + 1))
 followed_more f gs a h e =
@@ -107,7 +83,7 @@ followed_more f gs a h e =
 -- more than are allowed after some letters are more after all
 pub wide_letters : (f : ℕ → List ℕ) (gs : List (List ℕ)) (most a n : ℕ) (h : List ℕ) → h ≡ f (a + 1) → a < n → most < length (each_once ((gs ++ map f (up_to a)) ++ h ∷ [])) → most < length (each_once (gs ++ map f (up_to n)))
 wide_letters f gs most a n h e less wide =
-    let (rest, all) = up_to_goes_on (a + 1) n (omega arith) in
+    let (rest, all) = up_to-prefix (a + 1) n (omega arith) in
     let here : most < length (each_once (gs ++ map f (up_to (a + 1)))) = subst (λ l. most < length (each_once l)) (followed_more f gs a h e) wide in
     let grows : length (each_once (gs ++ map f (up_to (a + 1)))) ≤ length (each_once ((gs ++ map f (up_to (a + 1))) ++ map f rest)) = each_once_grows (gs ++ map f (up_to (a + 1))) (map f rest) in
     let whole : (gs ++ map f (up_to (a + 1))) ++ map f rest ≡ gs ++ map f (up_to n) =

@@ -4,14 +4,14 @@ use Rattle.std.specs.Prelude.{unwrap_or}
 use Rattle.std.specs.List.{Contains}
 use Rattle.nichols_field.specs.Field.{FieldValue, IsField}
 use Rattle.nichols_field.proofs.FieldLaws.{one_is_element}
-use Rattle.nichols_tensor.specs.Combination.{Combination, HasSameValues, AllElements, AllAmong, words_of, single, scaled, without_zeros}
+use Rattle.nichols_tensor.specs.Combination.{Combination, HasSameValues, AllElements, AllAmong, words_of, single, scalar_multiple, without_zeros}
 use Rattle.nichols_tensor.specs.Words.{IsWordOver, IsOver, HasDegree, combinations}
 use Rattle.nichols_tensor.specs.WordOrder.{IsRising}
 use Rattle.nichols_tensor.proofs.Entries.{found, finds}
-use Rattle.nichols_tensor.proofs.Enumeration.{enumerated, enumerated_words, enumerated_elements, among_from_words, among-append, among-scaled}
+use Rattle.nichols_tensor.proofs.Enumeration.{enumerated, enumerated_words, enumerated_elements, among_from_words, among-append, among-scalar_multiple}
 use Rattle.nichols_tensor.proofs.Ordered.{ordered_unique}
 use Rattle.nichols_tensor.proofs.Building.{value_at-without_zeros, all-without_zeros, ordered-without_zeros}
-use Rattle.nichols_tensor.proofs.Over.{all-append, all-scaled}
+use Rattle.nichols_tensor.proofs.Over.{all-append, all-scalar_multiple}
 use Rattle.nichols_tensor.proofs.AllWords.{among_words}
 use Rattle.nichols_tensor.proofs.Tests.{find_same, same_answer}
 use Rattle.nichols_braid.specs.Braid.{BraidValue}
@@ -19,7 +19,7 @@ use Rattle.nichols_braid.specs.Kernel.{Vanishing}
 use Rattle.nichols_braid.specs.Least.{are_congruent, basis, normal_form}
 use Rattle.nichols_braid.specs.LinearTest.{IsLinearTest}
 use Rattle.nichols_braid.specs.LeastLaws.{IsNormalForm, IsLinearOnDegree}
-use Rattle.nichols_braid.proofs.Congruences.{AreCongruent, congruent_same, congruent_sym, congruent_trans, congruent_right, congruent_zero, zero_congruent, congruent-append, congruent-scaled}
+use Rattle.nichols_braid.proofs.Congruences.{AreCongruent, congruent_same, congruent_sym, congruent_trans, congruent_right, congruent_zero, zero_congruent, congruent-append, congruent-scalar_multiple}
 use Rattle.nichols_braid.proofs.Reduction.{basis_rises, reduced_to_basis}
 use Rattle.nichols_braid.proofs.Independence.{same_on_basis}
 
@@ -158,11 +158,11 @@ form_is_linear vanishes braid is m l = record { sums = sums; multiples = multipl
         (congruent_trans k is test l (form (f ++ g)) (f ++ g) (form f ++ form g) (congruent_sym k is test l (f ++ g) (form (f ++ g)) r.congruent)
         (congruent-append k is test l f (form f) g (form g) p.congruent q.congruent))
 
-    multiples : (c : ℕ) (f : Combination) → HasDegree m f → IsOver braid.letters f → HasSameValues braid.field (normal_form vanishes braid m (scaled braid.field c f)) (scaled braid.field c (normal_form vanishes braid m f))
+    multiples : (c : ℕ) (f : Combination) → HasDegree m f → IsOver braid.letters f → HasSameValues braid.field (normal_form vanishes braid m (scalar_multiple braid.field c f)) (scalar_multiple braid.field c (normal_form vanishes braid m f))
     multiples c f df of =
         let p : IsNormalForm vanishes braid m f (form f) = form_is_normal vanishes braid is m l f df of in
-        let r : IsNormalForm vanishes braid m (scaled k c f) (form (scaled k c f)) =
-        form_is_normal vanishes braid is m l (scaled k c f) (all-scaled (λ v. length v ≡ m) k c f df) (all-scaled (IsWordOver braid.letters) k c f of) in
-        same_on_basis vanishes braid is m l (form (scaled k c f)) (scaled k c (form f)) r.least (among-scaled k c (form f) ws p.least)
-        (congruent_trans k is test l (form (scaled k c f)) (scaled k c f) (scaled k c (form f)) (congruent_sym k is test l (scaled k c f) (form (scaled k c f)) r.congruent)
-        (congruent-scaled k is test l c f (form f) p.congruent))
+        let r : IsNormalForm vanishes braid m (scalar_multiple k c f) (form (scalar_multiple k c f)) =
+        form_is_normal vanishes braid is m l (scalar_multiple k c f) (all-scalar_multiple (λ v. length v ≡ m) k c f df) (all-scalar_multiple (IsWordOver braid.letters) k c f of) in
+        same_on_basis vanishes braid is m l (form (scalar_multiple k c f)) (scalar_multiple k c (form f)) r.least (among-scalar_multiple k c (form f) ws p.least)
+        (congruent_trans k is test l (form (scalar_multiple k c f)) (scalar_multiple k c f) (scalar_multiple k c (form f)) (congruent_sym k is test l (scalar_multiple k c f) (form (scalar_multiple k c f)) r.congruent)
+        (congruent-scalar_multiple k is test l c f (form f) p.congruent))

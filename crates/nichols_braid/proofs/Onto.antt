@@ -15,11 +15,11 @@ use Rattle.nichols_tensor.proofs.Letters.{in_up_to, from_up_to, up_to_length}
 use Rattle.nichols_tensor.proofs.Over.{all_at}
 use Rattle.nichols_tensor.proofs.Tests.{map_same, all_of_entries}
 use Rattle.nichols_braid.specs.Braid.{BraidValue, IsLetter, IsRack, act}
-use Rattle.nichols_braid.specs.Product.{moved, product_of, unact, product_before}
+use Rattle.nichols_braid.specs.Product.{product_image, product_of, unact, product_before}
 use Rattle.nichols_braid.specs.Rearrangement.{IsRearrangement}
 use Rattle.nichols_braid.proofs.Counts.{in_front_and_rest}
 use Rattle.nichols_braid.proofs.Lists.{map-map}
-use Rattle.nichols_braid.proofs.KeptProducts.{MoveAlike, moved-append}
+use Rattle.nichols_braid.proofs.KeptProducts.{MoveAlike, product_image-append}
 use Rattle.nichols_braid.proofs.Rearranged.{up_to_distinct}
 
 -- ---- lists without repeats
@@ -98,9 +98,9 @@ unfolding product_of
 product_is_rearrangement braid rack [] over = subst (IsPermutation (up_to braid.letters)) (sym (map-id (up_to braid.letters))) (IsPermutation-refl (up_to braid.letters))
 product_is_rearrangement braid rack (x ∷ w) over =
     let letters : List ℕ = up_to braid.letters in
-    subst (IsPermutation letters) (map-map (act braid x) (moved braid w) letters)
-    (IsPermutation-trans letters (map (act braid x) letters) (map (act braid x) (map (moved braid w) letters)) (acted_rearranges braid rack x over.0)
-    (IsPermutation-map (act braid x) letters (map (moved braid w) letters) (product_is_rearrangement braid rack w over.1)))
+    subst (IsPermutation letters) (map-map (act braid x) (product_image braid w) letters)
+    (IsPermutation-trans letters (map (act braid x) letters) (map (act braid x) (map (product_image braid w) letters)) (acted_rearranges braid rack x over.0)
+    (IsPermutation-map (act braid x) letters (map (product_image braid w) letters) (product_is_rearrangement braid rack w over.1)))
 
 pub up_to_at : (n i : ℕ) → i < n → slice_index (up_to n) i ≡ suc i
 up_to_at zero i less = absurd (omega arith)
@@ -113,21 +113,21 @@ up_to_at (suc n) i less =
     ]
 
 -- the entry of a product for a letter is where the word sends it
-pub image_at : (braid : BraidValue) (w : List ℕ) (c : ℕ) → IsLetter braid c → slice_index (product_of braid w) (c - 1) ≡ moved braid w c
+pub image_at : (braid : BraidValue) (w : List ℕ) (c : ℕ) → IsLetter braid c → slice_index (product_of braid w) (c - 1) ≡ product_image braid w c
 unfolding product_of
 image_at braid w c l =
     let n : ℕ = braid.letters in
     let less : c - 1 < n = omega (arith, l.0, l.1) in
     let back : suc (c - 1) ≡ c = omega (arith, l.0) in
-    get_or-map (moved braid w) (up_to n) (c - 1) 0 0 (let size : length (up_to n) ≡ n = up_to_length n in omega arith) ∙ ap (moved braid w) (up_to_at n (c - 1) less ∙ back)
+    get_or-map (product_image braid w) (up_to n) (c - 1) 0 0 (let size : length (up_to n) ≡ n = up_to_length n in omega arith) ∙ ap (product_image braid w) (up_to_at n (c - 1) less ∙ back)
 
 -- a word that sends the letters, with a behind, where another does has the product before a of that
 pub product_before_alike : (braid : BraidValue) → IsRack braid → (a : ℕ) → IsLetter braid a → (v w : List ℕ) → MoveAlike braid (v ++ a ∷ []) w → product_of braid v ≡ product_before braid a (product_of braid w)
 unfolding product_of product_before
 product_before_alike braid rack a la v w h =
     let n : ℕ = braid.letters in
-    map_same (moved braid v) (λ j. slice_index (map (moved braid w) (up_to n)) (unact braid a j - 1)) (up_to n)
+    map_same (product_image braid v) (λ j. slice_index (map (product_image braid w) (up_to n)) (unact braid a j - 1)) (up_to n)
     (λ j i.
     let c : ℕ = unact braid a j in
     let (lc, e) = unact_is_before braid rack a la j (from_up_to n j i) in
-    ap (moved braid v) (sym e) ∙ sym (moved-append braid v (a ∷ []) c) ∙ h c lc ∙ sym (image_at braid w c lc))
+    ap (product_image braid v) (sym e) ∙ sym (product_image-append braid v (a ∷ []) c) ∙ h c lc ∙ sym (image_at braid w c lc))

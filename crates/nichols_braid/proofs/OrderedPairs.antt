@@ -7,18 +7,15 @@ use Rattle.std.proofs.lemmas.List.{take_more, append-nil}
 use Rattle.std.proofs.lemmas.List.Elements.{filter-append}
 use Rattle.nichols_tensor.specs.Words.{up_to}
 use Rattle.nichols_tensor.proofs.AllWords.{up_to_rises}
-use Rattle.nichols_tensor.proofs.Entries.{contains_first, contains_later, in_map, from_map, in_flat_map, from_flat_map, in_filter, from_filter}
+use Rattle.nichols_tensor.proofs.Entries.{in_map, from_map, in_flat_map, from_flat_map, in_filter, from_filter}
 use Rattle.nichols_tensor.proofs.Letters.{in_up_to, from_up_to}
-use Rattle.nichols_tensor.proofs.Over.{all-append}
+use Rattle.nichols_tensor.proofs.Over.{all-append, all-filter}
 use Rattle.nichols_tensor.proofs.Rising.{AllOrdered}
 use Rattle.nichols_braid.specs.PointsLaws.{IsTransposition, IsBefore}
 use Rattle.nichols_braid.specs.Transpositions.{Transposition, transpositions_from, transpositions}
+use Rattle.nichols_tensor.proofs.Tests.{all_of_entries}
 
 -- ---- entries that stand in a relation to each later one
-
-all_of_each : {X : Type 0} (P : X → Type 0) (xs : List X) → ((x : X) → Contains xs x → P x) → AllByRecursion P xs
-all_of_each P [] h = tt
-all_of_each P (x ∷ xs) h = (h x (contains_first x xs), all_of_each P xs (λ y i. h y (contains_later x xs y i)))
 
 at_each : {X : Type 0} (P : X → Type 0) (xs : List X) (i : ℕ) (d : X) → AllByRecursion P xs → i < length xs → P (get_or xs i d)
 at_each P [] i d h less = absurd (omega arith)
@@ -43,20 +40,12 @@ ordered-map : {X Y : Type 0} (R : Y → Y → Type 0) (f : X → Y) (xs : List X
 ordered-map R f [] o = tt
 ordered-map R f (x ∷ xs) o = (all-map (R (f x)) f xs o.0, ordered-map R f xs o.1)
 
-all-kept : {X : Type 0} (P : X → Type 0) (t : X → Bool) (xs : List X) → AllByRecursion P xs → AllByRecursion P (filter t xs)
-all-kept P t [] h = tt
-all-kept P t (x ∷ xs) h = at (t x) (all-kept P t xs h.1)
-  where
-    at : (b : Bool) → AllByRecursion P (filter t xs) → AllByRecursion P (cond b (x ∷ filter t xs) (filter t xs))
-    at true k = (h.0, k)
-    at false k = k
-
 ordered-kept : {X : Type 0} (R : X → X → Type 0) (t : X → Bool) (xs : List X) → AllOrdered R xs → AllOrdered R (filter t xs)
 ordered-kept R t [] o = tt
 ordered-kept R t (x ∷ xs) o = at (t x) (ordered-kept R t xs o.1)
   where
     at : (b : Bool) → AllOrdered R (filter t xs) → AllOrdered R (cond b (x ∷ filter t xs) (filter t xs))
-    at true k = (all-kept (R x) t xs o.0, k)
+    at true k = (all-filter (R x) t xs o.0, k)
     at false k = k
 
 ordered-weaker : {X : Type 0} (R S : X → X → Type 0) → ((x y : X) → R x y → S x y) → (xs : List X) → AllOrdered R xs → AllOrdered S xs
@@ -73,11 +62,11 @@ ordered-flat_map : {X Y : Type 0} (R : X → X → Type 0) (S : Y → Y → Type
 ordered-flat_map R S f each cross [] o = tt
 ordered-flat_map {X = X} {Y = Y} R S f each cross (x ∷ xs) o =
     ordered-append S (f x) (flat_map f xs) (each x) (ordered-flat_map R S f each cross xs o.1)
-    (all_of_each (λ v. AllByRecursion (S v) (flat_map f xs)) (f x) (λ v i. later v i xs o.0))
+    (all_of_entries (λ v. AllByRecursion (S v) (flat_map f xs)) (f x) (λ v i. later v i xs o.0))
   where
     later : (v : Y) → Contains (f x) v → (zs : List X) → AllByRecursion (R x) zs → AllByRecursion (S v) (flat_map f zs)
     later v i [] h = tt
-    later v i (z ∷ zs) h = all-append (S v) (f z) (flat_map f zs) (all_of_each (S v) (f z) (λ w j. cross x z v w h.0 i j)) (later v i zs h.1)
+    later v i (z ∷ zs) h = all-append (S v) (f z) (flat_map f zs) (all_of_entries (S v) (f z) (λ w j. cross x z v w h.0 i j)) (later v i zs h.1)
 
 -- ---- the transpositions
 

@@ -68,7 +68,7 @@ rearrangement_is_listed (suc m) ends h =
 
 -- ---- no entry stands twice
 
-distinct-append : (xs ys : List (List ℕ)) → IsDistinct same_letters xs → IsDistinct same_letters ys → ((x y : List ℕ) → Contains xs x → Contains ys y → same_letters x y ≡ false) → IsDistinct same_letters (xs ++ ys)
+pub distinct-append : (xs ys : List (List ℕ)) → IsDistinct same_letters xs → IsDistinct same_letters ys → ((x y : List ℕ) → Contains xs x → Contains ys y → same_letters x y ≡ false) → IsDistinct same_letters (xs ++ ys)
 unfolding IsDistinct
 distinct-append [] ys h l apart = l
 distinct-append (x ∷ xs) ys h l apart = (both xs h.0 ys (λ y i. apart x y (contains_first x xs) i), distinct-append xs ys h.1 l (λ z y i j. apart z y (contains_later x xs z i) j))
@@ -116,7 +116,7 @@ inserted_once n (x ∷ xs) (y ∷ ys) (suc i) (suc j) below less a b e =
     let first : x ≡ y = cc in
     (ap suc h.0, ap₂ (λ z r. z ∷ r) first h.1)
 
-apart_is_false : (v w : List ℕ) → (v ≡ w → ⊥) → same_letters v w ≡ false
+pub apart_is_false : (v w : List ℕ) → (v ≡ w → ⊥) → same_letters v w ≡ false
 apart_is_false v w h = elim (cases_Bool (same_letters v w)) [ inl t ↦ absurd (h (same_text v w (sym t))) | inr f ↦ f ]
 
 false_is_apart : (v w : List ℕ) → same_letters v w ≡ false → v ≡ w → ⊥

@@ -70,7 +70,7 @@ basis_word_is_candidate braid is vanishes ideal (suc m) (x ∷ w) h =
 
 -- ---- after an empty degree
 
-no_entries : (ws : List (List ℕ)) → ((w : List ℕ) → Contains ws w → ⊥) → ws ≡ []
+pub no_entries : (ws : List (List ℕ)) → ((w : List ℕ) → Contains ws w → ⊥) → ws ≡ []
 no_entries [] h = refl
 no_entries (w ∷ ws) h = absurd (h w (contains_first w ws))
 

@@ -1,14 +1,14 @@
 -- The laws of the products of one length, of leading letters and of rows, each as its statement has it.
 use Rattle.std.proofs.Common.{◌≡◌, ℕ, zero, suc, ◌+◌, ◌≤◌, Bool, true, false, cond, not, List, [], ◌∷◌, ◌++◌, map, length, refl, sym, ◌∙◌, ap, ap₂, subst, arith, Some, None, inl, inr}
 use Rattle.std.specs.Prelude.{unwrap_or}
-use Rattle.std.specs.List.{flat_map, filter, find, sum_by, Contains}
+use Rattle.std.specs.List.{filter, find, sum_by, Contains}
 use Rattle.std.specs.Option.{option_or}
 use Rattle.std.specs.declared.option.Option.{Option}
 use Rattle.std.specs.declared.cmp.Ordering.TheVariants.{Less}
 use Rattle.std.specs.Cmp.Lexicographic.{same_text}
 use Rattle.std.proofs.lemmas.Bool.{cases_lt}
 use Rattle.std.proofs.lemmas.List.Concat.{length-flat_map}
-use Rattle.std.proofs.lemmas.List.Elements.{filter-append, filter_agree}
+use Rattle.std.proofs.lemmas.List.Elements.{filter_agree}
 use Rattle.std.proofs.lemmas.List.{length-map}
 use Rattle.std.proofs.lemmas.List.Folds.{find-append}
 use Rattle.std.proofs.lemmas.List.Sums.{sum_by-cons, length-filter}
@@ -33,6 +33,7 @@ use Rattle.nichols_braid.proofs.EachOnce.{in_each_once, from_each_once, once_dis
 use Rattle.nichols_braid.proofs.InlineProducts.{after_a_word, after_before}
 use Rattle.nichols_braid.proofs.NextProducts.{products_next}
 use Rattle.nichols_braid.proofs.Onto.{product_before_alike}
+use Rattle.nichols_braid.proofs.Lists.{filter-flat_map, filter-map}
 
 pub product_after_a_letter : ProductAfterALetter
 product_after_a_letter braid is w a la = after_a_word braid is.rack a la w
@@ -137,19 +138,7 @@ next_products braid is m = products_next braid is m
 pub candidate_product : (vanishes : Vanishing) (braid : BraidValue) (m : ℕ) (w : List ℕ) → Contains (candidates vanishes braid m) w → Contains (products braid m) (product_of braid w)
 candidate_product vanishes braid m w i = let from : (length w ≡ m) × IsWordOver braid.letters w = from_candidates vanishes braid m w i in (products_are_of_words braid m (product_of braid w)).1 (w, from.0, from.1, refl)
 
-filter-flat_map : {X Y : Type 0} (t : Y → Bool) (f : X → List Y) (xs : List X) → filter t (flat_map f xs) ≡ flat_map (λ x. filter t (f x)) xs
-filter-flat_map t f [] = refl
-filter-flat_map t f (x ∷ xs) = filter-append t (f x) (flat_map f xs) ∙ ap (λ l. filter t (f x) ++ l) (filter-flat_map t f xs)
-
-filter-map : {X Y : Type 0} (t : Y → Bool) (f : X → Y) (xs : List X) → filter t (map f xs) ≡ map f (filter (λ x. t (f x)) xs)
-filter-map t f [] = refl
-filter-map t f (x ∷ xs) = ap (λ l. cond (t (f x)) (f x ∷ l) l) (filter-map t f xs) ∙ at (t (f x))
-  where
-    at : (b : Bool) → cond b (f x ∷ map f (filter (λ y. t (f y)) xs)) (map f (filter (λ y. t (f y)) xs)) ≡ map f (cond b (x ∷ filter (λ y. t (f y)) xs) (filter (λ y. t (f y)) xs))
-    at true = refl
-    at false = refl
-
-same_sum : {X : Type 0} (f g : X → ℕ) (xs : List X) → ((x : X) → Contains xs x → f x ≡ g x) → sum_by f xs ≡ sum_by g xs
+pub same_sum : {X : Type 0} (f g : X → ℕ) (xs : List X) → ((x : X) → Contains xs x → f x ≡ g x) → sum_by f xs ≡ sum_by g xs
 same_sum f g [] h = refl
 same_sum f g (x ∷ xs) h =
     sum_by-cons f x xs ∙ ap₂ (λ m n. m + n) (h x (contains_first x xs)) (same_sum f g xs (λ y i. h y (contains_later x xs y i))) ∙ sym (sum_by-cons g x xs)
@@ -176,7 +165,7 @@ sum_of_none [] = refl
 sum_of_none (x ∷ xs) = sum_by-cons (λ y. 0) x xs ∙ ap (λ n. 0 + n) (sum_of_none xs)
 
 -- pairs that pass, counted by their first parts, and by their second
-counted : {X Y : Type 0} (t : X → Y → Bool) (xs : List X) (ys : List Y) → sum_by (λ x. length (filter (t x) ys)) xs ≡ sum_by (λ y. length (filter (λ x. t x y) xs)) ys
+pub counted : {X Y : Type 0} (t : X → Y → Bool) (xs : List X) (ys : List Y) → sum_by (λ x. length (filter (t x) ys)) xs ≡ sum_by (λ y. length (filter (λ x. t x y) xs)) ys
 counted {X = X} t [] ys = sym (sum_of_none ys)
 counted {X = X} t (x ∷ xs) ys =
     sum_by-cons (λ z. length (filter (t z) ys)) x xs ∙ ap₂ (λ m n. m + n) (length-filter (t x) ys) (counted t xs ys) ∙ sym (sum_of_sums (λ y. cond (t x y) 1 0) (λ y. length (filter (λ z. t z y) xs)) ys)

@@ -4,12 +4,12 @@ use Rattle.std.specs.Prelude.{if◌then◌else◌}
 use Rattle.std.proofs.lemmas.List.{map-append}
 use Rattle.nichols_field.specs.Field.{FieldValue, IsField, times}
 use Rattle.nichols_field.proofs.FieldAlgebra.{swap_factors}
-use Rattle.nichols_tensor.specs.Combination.{Term, Combination, value_at, HasSameValues, single, scaled, extended}
-use Rattle.nichols_tensor.proofs.Linear.{same_images, same_append, same_scaled, extended-single}
+use Rattle.nichols_tensor.specs.Combination.{Term, Combination, value_at, HasSameValues, single, scalar_multiple, linear_map}
+use Rattle.nichols_tensor.proofs.Linear.{same_images, same_append, same_scaled, linear_map-single}
 use Rattle.nichols_braid.specs.Braid.{BraidValue, act, scalar}
-use Rattle.nichols_braid.specs.Derivation.{derived_word, derived, scalars_met}
+use Rattle.nichols_braid.specs.Derivation.{derived_word, skew_derivative, scalars_met}
 use Rattle.nichols_braid.specs.RightProduct.{times_letter}
-use Rattle.nichols_braid.proofs.Maps.{extended_same, extended-sum, extended-multiple, extended-extended, extended_identity, same_commuted, times_letter_is_extended}
+use Rattle.nichols_braid.proofs.Maps.{extended_same, linear_map-sum, linear_map-multiple, linear_map-linear_map, extended_identity, same_commuted, times_letter_is_extended}
 
 -- a derived term, with the letter b behind it
 abbrev passed : BraidValue → ℕ → ℕ → Term → Term
@@ -56,28 +56,28 @@ derived_word-push braid a b (x ∷ u) =
     ∙ sym (append_assoc (map g first) (map g (map (prefixed x) ts)) (here (nat_eq a b) (prefixed x last)))
     ∙ ap (λ d. d ++ here (nat_eq a b) (prefixed x last)) (sym (map-append g first (map (prefixed x) ts)))
 
-passed_is_scaled : (braid : BraidValue) (a b : ℕ) (ts : Combination) → map (passed braid a b) ts ≡ scaled braid.field (scalar braid a b) (times_letter ts (act braid a b))
+passed_is_scaled : (braid : BraidValue) (a b : ℕ) (ts : Combination) → map (passed braid a b) ts ≡ scalar_multiple braid.field (scalar braid a b) (times_letter ts (act braid a b))
 passed_is_scaled braid a b [] = refl
 passed_is_scaled braid a b (t ∷ ts) = ap (λ r. passed braid a b t ∷ r) (passed_is_scaled braid a b ts)
 
-chosen_identity : (k : FieldValue) → IsField k → (c : Bool) (f : Combination) → HasSameValues k (extended k (λ v. if c then single v else []) f) (if c then f else [])
+chosen_identity : (k : FieldValue) → IsField k → (c : Bool) (f : Combination) → HasSameValues k (linear_map k (λ v. if c then single v else []) f) (if c then f else [])
 chosen_identity k is true f = extended_identity k is f
 chosen_identity k is false f = nothing f
   where
-    nothing : (g : Combination) → HasSameValues k (extended k (λ v. []) g) []
+    nothing : (g : Combination) → HasSameValues k (linear_map k (λ v. []) g) []
     nothing [] w = refl
     nothing (t ∷ g) w = nothing g w
 
 -- `∂_a(f x_b) = [a = b] f + q(a, b) ∂_a(f) x_{a ▷ b}`
-pub derived-times_letter : (braid : BraidValue) → IsField braid.field → (a b : ℕ) (f : Combination) →
-    HasSameValues braid.field (derived braid a (times_letter f b)) ((if nat_eq a b then f else []) ++ scaled braid.field (scalar braid a b) (times_letter (derived braid a f) (act braid a b)))
-derived-times_letter braid is a b f w =
-    same_images k is D (times_letter f b) (extended k pushed f) (times_letter_is_extended k is f b) w
-    ∙ extended-extended k is pushed D f w
-    ∙ extended_same k is (λ v. extended k D (pushed v)) (λ v. later v ++ now v) f (λ v u. extended-single k is D (v ++ b ∷ []) u ∙ ap (λ g. value_at k g u) (derived_word-push braid a b v ∙ ap (λ g. g ++ now v) (passed_is_scaled braid a b (D v)))) w
-    ∙ extended-sum k is later now f w
-    ∙ same_append k is (extended k later f) (extended k now f) (scaled k q (times_letter (derived braid a f) c)) (if nat_eq a b then f else []) behind (chosen_identity k is (nat_eq a b) f) w
-    ∙ same_commuted k is (scaled k q (times_letter (derived braid a f) c)) (if nat_eq a b then f else []) w
+pub skew_derivative-times_letter : (braid : BraidValue) → IsField braid.field → (a b : ℕ) (f : Combination) →
+    HasSameValues braid.field (skew_derivative braid a (times_letter f b)) ((if nat_eq a b then f else []) ++ scalar_multiple braid.field (scalar braid a b) (times_letter (skew_derivative braid a f) (act braid a b)))
+skew_derivative-times_letter braid is a b f w =
+    same_images k is D (times_letter f b) (linear_map k pushed f) (times_letter_is_extended k is f b) w
+    ∙ linear_map-linear_map k is pushed D f w
+    ∙ extended_same k is (λ v. linear_map k D (pushed v)) (λ v. later v ++ now v) f (λ v u. linear_map-single k is D (v ++ b ∷ []) u ∙ ap (λ g. value_at k g u) (derived_word-push braid a b v ∙ ap (λ g. g ++ now v) (passed_is_scaled braid a b (D v)))) w
+    ∙ linear_map-sum k is later now f w
+    ∙ same_append k is (linear_map k later f) (linear_map k now f) (scalar_multiple k q (times_letter (skew_derivative braid a f) c)) (if nat_eq a b then f else []) behind (chosen_identity k is (nat_eq a b) f) w
+    ∙ same_commuted k is (scalar_multiple k q (times_letter (skew_derivative braid a f) c)) (if nat_eq a b then f else []) w
   where
     k : FieldValue
     k = braid.field
@@ -98,12 +98,12 @@ derived-times_letter braid is a b f w =
     now v = if nat_eq a b then single v else []
 
     later : List ℕ → Combination
-    later v = scaled k q (times_letter (D v) c)
+    later v = scalar_multiple k q (times_letter (D v) c)
 
-    behind : HasSameValues k (extended k later f) (scaled k q (times_letter (extended k D f) c))
+    behind : HasSameValues k (linear_map k later f) (scalar_multiple k q (times_letter (linear_map k D f) c))
     behind u =
-        extended-multiple k is q (λ v. times_letter (D v) c) f u
-        ∙ same_scaled k is q (extended k (λ v. times_letter (D v) c) f) (times_letter (extended k D f) c)
-        (λ x. extended_same k is (λ v. times_letter (D v) c) (λ v. extended k (λ z. single (z ++ c ∷ [])) (D v)) f (λ v. times_letter_is_extended k is (D v) c) x
-        ∙ sym (extended-extended k is D (λ z. single (z ++ c ∷ [])) f x)
-        ∙ sym (times_letter_is_extended k is (extended k D f) c x)) u
+        linear_map-multiple k is q (λ v. times_letter (D v) c) f u
+        ∙ same_scaled k is q (linear_map k (λ v. times_letter (D v) c) f) (times_letter (linear_map k D f) c)
+        (λ x. extended_same k is (λ v. times_letter (D v) c) (λ v. linear_map k (λ z. single (z ++ c ∷ [])) (D v)) f (λ v. times_letter_is_extended k is (D v) c) x
+        ∙ sym (linear_map-linear_map k is D (λ z. single (z ++ c ∷ [])) f x)
+        ∙ sym (times_letter_is_extended k is (linear_map k D f) c x)) u

@@ -8,15 +8,15 @@ use Rattle.std.proofs.lemmas.List.Elements.{filter_agree}
 use Rattle.nichols_field.specs.Field.{FieldValue, IsField, IsElement, plus}
 use Rattle.nichols_field.proofs.FieldLaws.{plus_zero}
 use Rattle.nichols_field.proofs.FieldAlgebra.{zero_plus}
-use Rattle.nichols_tensor.specs.Combination.{Term, Combination, value_at, HasSameValues, IsZero, scaled, extended, same_letters}
+use Rattle.nichols_tensor.specs.Combination.{Term, Combination, value_at, HasSameValues, IsZero, scalar_multiple, linear_map, same_letters}
 use Rattle.nichols_tensor.specs.Parts.{part}
 use Rattle.nichols_tensor.specs.Words.{IsWordOver, IsOver}
-use Rattle.nichols_tensor.proofs.Over.{all-scaled, all-weaker}
+use Rattle.nichols_tensor.proofs.Over.{all-scalar_multiple, all-weaker}
 use Rattle.nichols_tensor.proofs.Parts.{part-append, part_of_all, part_of_none}
 use Rattle.nichols_tensor.proofs.Values.{value_is_element, value_at-append, value_at-part, same_itself}
 use Rattle.nichols_braid.specs.Braid.{BraidValue, IsLetter, IsRack}
-use Rattle.nichols_braid.specs.Symmetrizer.{lifts, symmetrized}
-use Rattle.nichols_braid.specs.Derivation.{derived_word, derived}
+use Rattle.nichols_braid.specs.Symmetrizer.{lifts, symmetrizer_image}
+use Rattle.nichols_braid.specs.Derivation.{derived_word, skew_derivative}
 use Rattle.nichols_braid.specs.Kernel.{IsKilled, IsInKernel}
 use Rattle.nichols_braid.specs.Product.{product_of, has_product, part_of_product}
 use Rattle.nichols_braid.proofs.Degrees.{AllWords, derived_over}
@@ -43,21 +43,21 @@ both_parts k is p f w =
     at false n e = zero_plus k n e
 
 -- a linear map takes a part to a part, where the words of each image pass as the word does
-extended-part : (k : FieldValue) (image : List ℕ → Combination) (p q : List ℕ → Bool) (f : Combination) → AllByRecursion (λ t. AllWords (λ v. q v ≡ p t.word) (image t.word)) f →
-    extended k image (part p f) ≡ part q (extended k image f)
-extended-part k image p q [] h = refl
-extended-part k image p q (t ∷ f) h =
-    chosen (p t.word) refl (extended-part k image p q f h.1) ∙ sym (part-append q here (extended k image f))
+linear_map-part : (k : FieldValue) (image : List ℕ → Combination) (p q : List ℕ → Bool) (f : Combination) → AllByRecursion (λ t. AllWords (λ v. q v ≡ p t.word) (image t.word)) f →
+    linear_map k image (part p f) ≡ part q (linear_map k image f)
+linear_map-part k image p q [] h = refl
+linear_map-part k image p q (t ∷ f) h =
+    chosen (p t.word) refl (linear_map-part k image p q f h.1) ∙ sym (part-append q here (linear_map k image f))
   where
     here : Combination
-    here = scaled k t.coefficient (image t.word)
+    here = scalar_multiple k t.coefficient (image t.word)
 
     passing : (b : Bool) → p t.word ≡ b → AllWords (λ v. q v ≡ b) here
-    passing b e = all-scaled (λ v. q v ≡ b) k t.coefficient (image t.word) (all-weaker (λ (u : Term). q u.word ≡ p t.word) (λ (u : Term). q u.word ≡ b) (λ u same. same ∙ e) (image t.word) h.0)
+    passing b e = all-scalar_multiple (λ v. q v ≡ b) k t.coefficient (image t.word) (all-weaker (λ (u : Term). q u.word ≡ p t.word) (λ (u : Term). q u.word ≡ b) (λ u same. same ∙ e) (image t.word) h.0)
 
-    chosen : (b : Bool) → p t.word ≡ b → extended k image (part p f) ≡ part q (extended k image f) → extended k image (cond b (t ∷ part p f) (part p f)) ≡ part q here ++ part q (extended k image f)
+    chosen : (b : Bool) → p t.word ≡ b → linear_map k image (part p f) ≡ part q (linear_map k image f) → linear_map k image (cond b (t ∷ part p f) (part p f)) ≡ part q here ++ part q (linear_map k image f)
     chosen true e r = ap₂ (λ g g'. g ++ g') (sym (part_of_all q here (passing true e))) r
-    chosen false e r = r ∙ ap (λ g. g ++ part q (extended k image f)) (sym (part_of_none q here (passing false e)))
+    chosen false e r = r ∙ ap (λ g. g ++ part q (linear_map k image f)) (sym (part_of_none q here (passing false e)))
 
 -- ---- a property of combinations that splits by a key of their words
 
@@ -137,7 +137,7 @@ lifts_pass braid rack g (t ∷ f) over = (
 
 pub kernel_part : (braid : BraidValue) → IsField braid.field → IsRack braid → (f : Combination) → IsOver braid.letters f → IsInKernel braid f → (g : List ℕ) → IsInKernel braid (part_of_product braid g f)
 kernel_part braid is rack f over h g =
-    subst (IsZero braid.field) (sym (extended-part braid.field (lifts braid) (has_product braid g) (has_product braid g) f (lifts_pass braid rack g f over))) (zero_part braid.field is (has_product braid g) (symmetrized braid f) h)
+    subst (IsZero braid.field) (sym (linear_map-part braid.field (lifts braid) (has_product braid g) (has_product braid g) f (lifts_pass braid rack g f over))) (zero_part braid.field is (has_product braid g) (symmetrizer_image braid f) h)
 
 pub kernel_from_parts : (braid : BraidValue) → IsField braid.field → (f : Combination) → ((g : List ℕ) → IsInKernel braid (part_of_product braid g f)) → IsInKernel braid f
 kernel_from_parts braid is f h = from_parts braid.field is (IsInKernel braid) (kernel_same braid is) (λ w. refl) (kernel-append braid is) (product_of braid) (length f) f (omega arith) h
@@ -160,8 +160,8 @@ derived_passes braid rack g a la u behind (t ∷ f) over = (
 killed_part_behind : (braid : BraidValue) → IsField braid.field → IsRack braid → (g u : List ℕ) → IsWordOver braid.letters u → (m : ℕ) (f : Combination) → IsOver braid.letters f → IsKilled braid m f → IsKilled braid m (part (λ w. has_product braid g (w ++ u)) f)
 killed_part_behind braid is rack g u behind zero f over h = zero_part braid.field is (λ w. has_product braid g (w ++ u)) f h
 killed_part_behind braid is rack g u behind (suc m) f over h = λ a la.
-    subst (IsKilled braid m) (sym (extended-part braid.field (derived_word braid a) (λ w. has_product braid g (w ++ u)) (λ v. has_product braid g (v ++ a ∷ u)) f (derived_passes braid rack g a la u behind f over)))
-    (killed_part_behind braid is rack g (a ∷ u) (la, behind) m (derived braid a f) (derived_over braid rack a la f over) (h a la))
+    subst (IsKilled braid m) (sym (linear_map-part braid.field (derived_word braid a) (λ w. has_product braid g (w ++ u)) (λ v. has_product braid g (v ++ a ∷ u)) f (derived_passes braid rack g a la u behind f over)))
+    (killed_part_behind braid is rack g (a ∷ u) (la, behind) m (skew_derivative braid a f) (derived_over braid rack a la f over) (h a la))
 
 pub killed_part : (braid : BraidValue) → IsField braid.field → IsRack braid → (m : ℕ) (f : Combination) → IsOver braid.letters f → IsKilled braid m f → (g : List ℕ) → IsKilled braid m (part_of_product braid g f)
 killed_part braid is rack m f over h g =

@@ -1,13 +1,9 @@
 -- Where what vanishes is a left ideal, suffixes of least words are least.
 use Rattle.std.proofs.Common.{◌≡◌, ℕ, suc, true, List, [], ◌∷◌, ◌++◌, length, refl, sym, ◌∙◌, ap}
-use Rattle.std.specs.Cmp.Lexicographic.{slice_cmp}
-use Rattle.std.specs.Ordering.{nat_cmp, ordering_then}
-use Rattle.std.specs.declared.cmp.Ordering.TheVariants.{Less}
 use Rattle.nichols_field.specs.Field.{FieldValue, IsField}
 use Rattle.nichols_tensor.specs.Combination.{Combination, AllAmong, single, minus}
-use Rattle.nichols_tensor.specs.WordOrder.{word_cmp}
 use Rattle.nichols_tensor.specs.Words.{IsLetterOf, IsWordOver, words_before}
-use Rattle.nichols_tensor.proofs.AllWords.{number_same, same_length_cmp, in_words_before, from_words_before}
+use Rattle.nichols_tensor.proofs.AllWords.{in_words_before, from_words_before, prepend_less}
 use Rattle.nichols_braid.specs.Braid.{BraidValue}
 use Rattle.nichols_braid.specs.Kernel.{Vanishing}
 use Rattle.nichols_braid.specs.Least.{is_least}
@@ -18,17 +14,12 @@ use Rattle.nichols_braid.proofs.Degrees.{minus_degree, minus_over}
 use Rattle.nichols_braid.proofs.LeastWords.{least_refutes, least_unless, earlier_from_among}
 use Rattle.nichols_braid.proofs.LeftProducts.{letter_times-minus}
 
--- words of one length that are in order stay in order with one letter in front
-pub front_less : (b : ℕ) (v w : List ℕ) → length v ≡ length w → word_cmp v w ≡ Less → word_cmp (b ∷ v) (b ∷ w) ≡ Less
-front_less b v w e less =
-    same_length_cmp (b ∷ v) (b ∷ w) (ap suc e) ∙ ap (λ o. ordering_then o (slice_cmp nat_cmp v w)) (number_same b b refl) ∙ sym (same_length_cmp v w e) ∙ less
-
 fronted_among : (n b : ℕ) (v : List ℕ) → IsLetterOf n b → (g : Combination) → AllAmong g (words_before n v) → AllAmong (letter_times b g) (words_before n (b ∷ v))
 unfolding AllAmong
 fronted_among n b v l [] h = tt
 fronted_among n b v l (t ∷ g) h =
     let (size, over, less) = from_words_before n t.word v h.0 in
-    (in_words_before n (b ∷ t.word) (b ∷ v) (ap suc size) (l, over) (front_less b t.word v size less), fronted_among n b v l g h.1)
+    (in_words_before n (b ∷ t.word) (b ∷ v) (ap suc size) (l, over) (prepend_less b t.word v size less), fronted_among n b v l g h.1)
 
 -- what is behind the first letter of a least word
 rest_is_least : (braid : BraidValue) → IsField braid.field → (vanishes : Vanishing) → IsLeftIdealTest braid (vanishes braid) → (b : ℕ) (v : List ℕ) → IsWordOver braid.letters (b ∷ v) →

@@ -90,7 +90,7 @@ form_of_part : (vanishes : Vanishing) (braid : BraidValue) → IsField braid.fie
     IsNormalForm vanishes braid m (part_of_degree m f) (form vanishes braid f m)
 form_of_part vanishes braid is l f over m = form_is_normal vanishes braid is m (l m) (part_of_degree m f) (degree-part m f) (over-part braid.letters (λ w. nat_eq (length w) m) f over)
 
-least_have_degree : (vanishes : Vanishing) (braid : BraidValue) (m : ℕ) (g : Combination) → AllAmong g (basis vanishes braid m) → HasDegree m g
+pub least_have_degree : (vanishes : Vanishing) (braid : BraidValue) (m : ℕ) (g : Combination) → AllAmong g (basis vanishes braid m) → HasDegree m g
 least_have_degree vanishes braid m g among =
     all_among (λ w. length w ≡ m) g (basis vanishes braid m) among (all_of_entries (λ w. length w ≡ m) (basis vanishes braid m) (λ w i. (from_basis vanishes braid m w i).0))
 

@@ -5,15 +5,15 @@ use Rattle.std.specs.List.{AllByRecursion, list_all, range_with_len}
 use Rattle.std.proofs.lemmas.Bool.{cases_lt}
 use Rattle.std.proofs.lemmas.Bool.Decides.{nat_tests, Decides-eqb}
 use Rattle.nichols_field.specs.Field.{FieldValue, IsField, negative}
-use Rattle.nichols_tensor.specs.Combination.{Term, Combination, value_at, minus, scaled}
+use Rattle.nichols_tensor.specs.Combination.{Term, Combination, value_at, minus, scalar_multiple}
 use Rattle.nichols_tensor.specs.Parts.{part, part_of_degree, longest, degrees_of}
 use Rattle.nichols_tensor.proofs.Entries.{each_of, of_each}
-use Rattle.nichols_tensor.proofs.Parts.{part-append, part-scaled, part-extended}
+use Rattle.nichols_tensor.proofs.Parts.{part-append, part-scalar_multiple, part-linear_map}
 use Rattle.nichols_tensor.proofs.Values.{value_at-part}
 use Rattle.nichols_braid.specs.Braid.{BraidValue}
-use Rattle.nichols_braid.specs.Crossing.{cross, crossed}
+use Rattle.nichols_braid.specs.Crossing.{cross, crossed_term}
 use Rattle.nichols_braid.specs.Lift.{lift, bubble}
-use Rattle.nichols_braid.specs.Symmetrizer.{permutations, lifts, symmetrized}
+use Rattle.nichols_braid.specs.Symmetrizer.{permutations, lifts, symmetrizer_image}
 use Rattle.nichols_braid.specs.Kernel.{Vanishing, IsInKernel, is_in_kernel, is_killed}
 use Rattle.nichols_braid.specs.LinearTest.{IsLinearTest}
 use Rattle.nichols_braid.specs.WholeKernel.{vanishes_by_parts}
@@ -48,7 +48,7 @@ by_parts vanishes braid l f = (
 )
 
 pub part-minus : (k : FieldValue) (test : List ℕ → Bool) (f g : Combination) → part test (minus k f g) ≡ minus k (part test f) (part test g)
-part-minus k test f g = part-append test f (scaled k (negative k 1) g) ∙ ap (λ h. part test f ++ h) (part-scaled k test (negative k 1) g)
+part-minus k test f g = part-append test f (scalar_multiple k (negative k 1) g) ∙ ap (λ h. part test f ++ h) (part-scalar_multiple k test (negative k 1) g)
 
 -- at the words of its own degree a part has the values of the whole
 pub value_in_part : (k : FieldValue) → IsField k → (f : Combination) (w : List ℕ) → value_at k (part_of_degree (length w) f) w ≡ value_at k f w
@@ -56,7 +56,7 @@ value_in_part k is f w = value_at-part k is (λ v. nat_eq (length v) (length w))
 
 -- ---- the symmetrizer keeps lengths
 
-cross_length : (braid : BraidValue) (i : ℕ) (w : List ℕ) → length (cross braid i w) ≡ length w
+pub cross_length : (braid : BraidValue) (i : ℕ) (w : List ℕ) → length (cross braid i w) ≡ length w
 cross_length braid zero w = refl
 cross_length braid (suc zero) [] = refl
 cross_length braid (suc zero) (a ∷ []) = refl
@@ -64,7 +64,7 @@ cross_length braid (suc zero) (a ∷ b ∷ w) = refl
 cross_length braid (suc (suc i)) [] = refl
 cross_length braid (suc (suc i)) (a ∷ w) = ap suc (cross_length braid (suc i) w)
 
-crossed_length : (braid : BraidValue) (places : List ℕ) (t : Term) → length (crossed braid places t).word ≡ length t.word
+crossed_length : (braid : BraidValue) (places : List ℕ) (t : Term) → length (crossed_term braid places t).word ≡ length t.word
 crossed_length braid [] t = refl
 crossed_length braid (i ∷ places) t = crossed_length braid places _ ∙ cross_length braid i t.word
 
@@ -77,8 +77,8 @@ lifts_have_length braid w = each (permutations (length w))
     each (ends ∷ all) = (crossed_length braid (bubble ends) (record { word = w; coefficient = 1 }), each all)
 
 -- the part of an image is the image of the part
-image-part : (braid : BraidValue) (m : ℕ) (f : Combination) → part_of_degree m (symmetrized braid f) ≡ symmetrized braid (part_of_degree m f)
-image-part braid m f = part-extended braid.field (lifts braid) of_degree of_degree (λ w. each w (lifts braid w) (lifts_have_length braid w)) f
+image-part : (braid : BraidValue) (m : ℕ) (f : Combination) → part_of_degree m (symmetrizer_image braid f) ≡ symmetrizer_image braid (part_of_degree m f)
+image-part braid m f = part-linear_map braid.field (lifts braid) of_degree of_degree (λ w. each w (lifts braid w) (lifts_have_length braid w)) f
   where
     of_degree : List ℕ → Bool
     of_degree w = nat_eq (length w) m
@@ -92,16 +92,16 @@ image-part braid m f = part-extended braid.field (lifts braid) of_degree of_degr
 parts_in_kernel : (braid : BraidValue) → IsField braid.field → (f : Combination) → IsInKernel braid f → (m : ℕ) → IsInKernel braid (part_of_degree m f)
 parts_in_kernel braid is f h m w =
     ap (λ g. value_at braid.field g w) (sym (image-part braid m f))
-    ∙ value_at-part braid.field is (λ v. nat_eq (length v) m) (symmetrized braid f) w
+    ∙ value_at-part braid.field is (λ v. nat_eq (length v) m) (symmetrizer_image braid f) w
     ∙ at (nat_eq (length w) m) (h w)
   where
-    at : (b : Bool) → value_at braid.field (symmetrized braid f) w ≡ 0 → cond b (value_at braid.field (symmetrized braid f) w) 0 ≡ 0
+    at : (b : Bool) → value_at braid.field (symmetrizer_image braid f) w ≡ 0 → cond b (value_at braid.field (symmetrizer_image braid f) w) 0 ≡ 0
     at true e = e
     at false e = refl
 
 whole_in_kernel : (braid : BraidValue) → IsField braid.field → (f : Combination) → ((m : ℕ) → IsInKernel braid (part_of_degree m f)) → IsInKernel braid f
 whole_in_kernel braid is f h w =
-    sym (value_in_part braid.field is (symmetrized braid f) w) ∙ ap (λ g. value_at braid.field g w) (image-part braid (length w) f) ∙ h (length w) w
+    sym (value_in_part braid.field is (symmetrizer_image braid f) w) ∙ ap (λ g. value_at braid.field g w) (image-part braid (length w) f) ∙ h (length w) w
 
 pub kernel_by_parts : KernelByParts
 kernel_by_parts braid is f = record {

@@ -8,8 +8,8 @@ use Rattle.nichols_tensor.specs.Words.{words, words_before, combinations}
 use Rattle.nichols_tensor.specs.Parts.{longest, degrees_of}
 use Rattle.nichols_braid.specs.Braid.{BraidValue, entry}
 use Rattle.nichols_braid.specs.Lift.{lift}
-use Rattle.nichols_braid.specs.Symmetrizer.{permutations, lifts, symmetrized}
-use Rattle.nichols_braid.specs.Derivation.{derived_word, derived}
+use Rattle.nichols_braid.specs.Symmetrizer.{permutations, lifts, symmetrizer_image}
+use Rattle.nichols_braid.specs.Derivation.{derived_word, skew_derivative}
 use Rattle.nichols_braid.specs.Kernel.{is_in_kernel, is_killed}
 use Rattle.nichols_braid.specs.Least.{are_congruent, is_least, basis, normal_form, candidates, relations}
 use Rattle.nichols_braid.specs.WholeForm.{normal_form_by_parts}
@@ -37,19 +37,19 @@ lift_312 : lift three (3 ∷ 1 ∷ 2 ∷ []) (1 ∷ 2 ∷ 3 ∷ []) ≡ term (3 
 unfolding field_on_numerals entry lift
 lift_312 = refl
 
-derivative_1 : derived three 1 (single (1 ∷ 2 ∷ 1 ∷ [])) ≡ term (3 ∷ 1 ∷ []) 1 ∷ term (1 ∷ 2 ∷ []) 1 ∷ []
+derivative_1 : skew_derivative three 1 (single (1 ∷ 2 ∷ 1 ∷ [])) ≡ term (3 ∷ 1 ∷ []) 1 ∷ term (1 ∷ 2 ∷ []) 1 ∷ []
 unfolding field_on_numerals entry derived_word
 derivative_1 = refl
 
-derivative_2 : derived three 2 (single (1 ∷ 2 ∷ 1 ∷ [])) ≡ term (1 ∷ 3 ∷ []) 100 ∷ []
+derivative_2 : skew_derivative three 2 (single (1 ∷ 2 ∷ 1 ∷ [])) ≡ term (1 ∷ 3 ∷ []) 100 ∷ []
 unfolding field_on_numerals entry derived_word
 derivative_2 = refl
 
-derivative_3 : derived three 3 (single (1 ∷ 2 ∷ 1 ∷ [])) ≡ []
+derivative_3 : skew_derivative three 3 (single (1 ∷ 2 ∷ 1 ∷ [])) ≡ []
 unfolding field_on_numerals entry derived_word
 derivative_3 = refl
 
-image_of_12 : symmetrized three (single (1 ∷ 2 ∷ [])) ≡ term (3 ∷ 1 ∷ []) 100 ∷ term (1 ∷ 2 ∷ []) 1 ∷ []
+image_of_12 : symmetrizer_image three (single (1 ∷ 2 ∷ [])) ≡ term (3 ∷ 1 ∷ []) 100 ∷ term (1 ∷ 2 ∷ []) 1 ∷ []
 unfolding field_on_numerals entry lift permutations lifts
 image_of_12 = refl
 

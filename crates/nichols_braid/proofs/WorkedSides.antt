@@ -9,7 +9,7 @@ use Rattle.nichols_braid.specs.Braid.{BraidValue, entry}
 use Rattle.nichols_braid.specs.Derivation.{derived_word}
 use Rattle.nichols_braid.specs.Kernel.{is_killed}
 use Rattle.nichols_braid.specs.Least.{are_congruent, is_least}
-use Rattle.nichols_braid.specs.LeftProduct.{letter_times, carried}
+use Rattle.nichols_braid.specs.LeftProduct.{letter_times, carried_past}
 use Rattle.nichols_braid.specs.NewWords.{is_new, new_words}
 use Rattle.nichols_braid.specs.Product.{product_of, unact, product_before, part_of_product}
 
@@ -25,11 +25,11 @@ onward = record { field = prime_field (pos 5); letters = 3; rack = 2 ∷ 3 ∷ 1
 three_in_front : letter_times 3 (term (1 ∷ 2 ∷ []) 2 ∷ term [] 4 ∷ []) ≡ term (3 ∷ 1 ∷ 2 ∷ []) 2 ∷ term (3 ∷ []) 4 ∷ []
 three_in_front = refl
 
-two_carried : carried onward 2 (term (1 ∷ 3 ∷ []) 3 ∷ term (2 ∷ 2 ∷ []) 2 ∷ []) ≡ term (2 ∷ 1 ∷ []) 2 ∷ term (3 ∷ 3 ∷ []) 3 ∷ []
+two_carried : carried_past onward 2 (term (1 ∷ 3 ∷ []) 3 ∷ term (2 ∷ 2 ∷ []) 2 ∷ []) ≡ term (2 ∷ 1 ∷ []) 2 ∷ term (3 ∷ 3 ∷ []) 3 ∷ []
 unfolding field_on_numerals entry
 two_carried = refl
 
-three_carried : carried onward 3 (term (1 ∷ 2 ∷ 3 ∷ []) 1 ∷ []) ≡ term (2 ∷ 3 ∷ 1 ∷ []) 2 ∷ []
+three_carried : carried_past onward 3 (term (1 ∷ 2 ∷ 3 ∷ []) 1 ∷ []) ≡ term (2 ∷ 3 ∷ 1 ∷ []) 2 ∷ []
 unfolding field_on_numerals entry
 three_carried = refl
 

@@ -8,11 +8,11 @@ use Rattle.nichols_tensor.specs.Combination.{Term, single, is_zero}
 use Rattle.nichols_tensor.specs.Words.{words, words_before, combinations}
 use Rattle.nichols_braid.specs.Braid.{BraidValue, entry}
 use Rattle.nichols_braid.specs.Lift.{lift}
-use Rattle.nichols_braid.specs.Symmetrizer.{permutations, lifts, symmetrized}
-use Rattle.nichols_braid.specs.Derivation.{derived_word, derived}
+use Rattle.nichols_braid.specs.Symmetrizer.{permutations, lifts, symmetrizer_image}
+use Rattle.nichols_braid.specs.Derivation.{derived_word, skew_derivative}
 use Rattle.nichols_braid.specs.Kernel.{is_in_kernel, is_killed}
 use Rattle.nichols_braid.specs.Least.{are_congruent, is_least, basis, normal_form, candidates, relations}
-use Rattle.nichols_braid.specs.End.{finished, finished_from, is_closed, stop_of}
+use Rattle.nichols_braid.specs.End.{degrees_finished, finished_from, is_closed, stop_of}
 
 abbrev term : List ℕ → ℕ → Term
 term w c = record { word = w; coefficient = c }
@@ -27,11 +27,11 @@ onward_lift : lift onward (3 ∷ 4 ∷ 1 ∷ 2 ∷ []) (3 ∷ 1 ∷ 2 ∷ 3 ∷ 
 unfolding field_on_numerals entry lift
 onward_lift = refl
 
-onward_derivative : derived onward 3 (single (1 ∷ 3 ∷ 1 ∷ 3 ∷ 3 ∷ [])) ≡ term (1 ∷ 2 ∷ 1 ∷ 1 ∷ []) 4 ∷ term (1 ∷ 3 ∷ 1 ∷ 1 ∷ []) 1 ∷ term (1 ∷ 3 ∷ 1 ∷ 3 ∷ []) 1 ∷ []
+onward_derivative : skew_derivative onward 3 (single (1 ∷ 3 ∷ 1 ∷ 3 ∷ 3 ∷ [])) ≡ term (1 ∷ 2 ∷ 1 ∷ 1 ∷ []) 4 ∷ term (1 ∷ 3 ∷ 1 ∷ 1 ∷ []) 1 ∷ term (1 ∷ 3 ∷ 1 ∷ 3 ∷ []) 1 ∷ []
 unfolding field_on_numerals entry derived_word
 onward_derivative = refl
 
-onward_image : symmetrized onward (single (2 ∷ 3 ∷ 1 ∷ [])) ≡
+onward_image : symmetrizer_image onward (single (2 ∷ 3 ∷ 1 ∷ [])) ≡
     term (3 ∷ 1 ∷ 2 ∷ []) 2 ∷ term (1 ∷ 2 ∷ 2 ∷ []) 4 ∷ term (3 ∷ 2 ∷ 3 ∷ []) 2 ∷ term (2 ∷ 2 ∷ 3 ∷ []) 4 ∷ term (1 ∷ 2 ∷ 1 ∷ []) 1 ∷ term (2 ∷ 3 ∷ 1 ∷ []) 1 ∷ []
 unfolding field_on_numerals entry lift permutations lifts
 onward_image = refl
@@ -44,7 +44,7 @@ backward_lift : lift backward (2 ∷ 1 ∷ 3 ∷ []) (1 ∷ 3 ∷ 3 ∷ []) ≡ 
 unfolding field_on_numerals entry lift
 backward_lift = refl
 
-backward_derivative : derived backward 1 (single (1 ∷ 1 ∷ 1 ∷ 1 ∷ [])) ≡ term (3 ∷ 3 ∷ 3 ∷ []) 6 ∷ term (1 ∷ 3 ∷ 3 ∷ []) 1 ∷ term (1 ∷ 1 ∷ 3 ∷ []) 6 ∷ term (1 ∷ 1 ∷ 1 ∷ []) 1 ∷ []
+backward_derivative : skew_derivative backward 1 (single (1 ∷ 1 ∷ 1 ∷ 1 ∷ [])) ≡ term (3 ∷ 3 ∷ 3 ∷ []) 6 ∷ term (1 ∷ 3 ∷ 3 ∷ []) 1 ∷ term (1 ∷ 1 ∷ 3 ∷ []) 6 ∷ term (1 ∷ 1 ∷ 1 ∷ []) 1 ∷ []
 unfolding field_on_numerals entry derived_word
 backward_derivative = refl
 
@@ -61,7 +61,7 @@ lift_of_four : lift onward_of_four (1 ∷ 3 ∷ 4 ∷ 2 ∷ []) (4 ∷ 1 ∷ 4 �
 unfolding field_on_numerals entry lift
 lift_of_four = refl
 
-image_of_four : symmetrized onward_of_four (single (2 ∷ 4 ∷ 2 ∷ [])) ≡
+image_of_four : symmetrizer_image onward_of_four (single (2 ∷ 4 ∷ 2 ∷ [])) ≡
     term (4 ∷ 1 ∷ 2 ∷ []) 39 ∷ term (1 ∷ 3 ∷ 2 ∷ []) 6 ∷ term (4 ∷ 2 ∷ 4 ∷ []) 5 ∷ term (2 ∷ 3 ∷ 4 ∷ []) 94 ∷ term (1 ∷ 2 ∷ 2 ∷ []) 28 ∷ term (2 ∷ 4 ∷ 2 ∷ []) 1 ∷ []
 unfolding field_on_numerals entry lift permutations lifts
 image_of_four = refl
@@ -80,11 +80,11 @@ tetrahedron_lift : lift tetrahedron (2 ∷ 3 ∷ 1 ∷ []) (2 ∷ 2 ∷ 1 ∷ []
 unfolding field_on_numerals entry lift
 tetrahedron_lift = refl
 
-tetrahedron_derivative : derived tetrahedron 4 (single (4 ∷ 1 ∷ 4 ∷ 3 ∷ 4 ∷ [])) ≡ term (2 ∷ 4 ∷ 1 ∷ 4 ∷ []) 59 ∷ term (4 ∷ 1 ∷ 1 ∷ 4 ∷ []) 7 ∷ term (4 ∷ 1 ∷ 4 ∷ 3 ∷ []) 1 ∷ []
+tetrahedron_derivative : skew_derivative tetrahedron 4 (single (4 ∷ 1 ∷ 4 ∷ 3 ∷ 4 ∷ [])) ≡ term (2 ∷ 4 ∷ 1 ∷ 4 ∷ []) 59 ∷ term (4 ∷ 1 ∷ 1 ∷ 4 ∷ []) 7 ∷ term (4 ∷ 1 ∷ 4 ∷ 3 ∷ []) 1 ∷ []
 unfolding field_on_numerals entry derived_word
 tetrahedron_derivative = refl
 
-tetrahedron_image : symmetrized tetrahedron (single (4 ∷ 2 ∷ [])) ≡ term (3 ∷ 4 ∷ []) 20 ∷ term (4 ∷ 2 ∷ []) 1 ∷ []
+tetrahedron_image : symmetrizer_image tetrahedron (single (4 ∷ 2 ∷ [])) ≡ term (3 ∷ 4 ∷ []) 20 ∷ term (4 ∷ 2 ∷ []) 1 ∷ []
 unfolding field_on_numerals entry lift permutations lifts
 tetrahedron_image = refl
 
@@ -102,7 +102,7 @@ square_lift : lift square (3 ∷ 2 ∷ 1 ∷ 5 ∷ 4 ∷ []) (4 ∷ 1 ∷ 4 ∷ 
 unfolding field_on_numerals entry lift
 square_lift = refl
 
-square_derivative : derived square 4 (single (4 ∷ 3 ∷ 4 ∷ 4 ∷ 4 ∷ [])) ≡ term (1 ∷ 4 ∷ 4 ∷ 4 ∷ []) 4 ∷ term (4 ∷ 3 ∷ 4 ∷ 4 ∷ []) 2 ∷ term (4 ∷ 3 ∷ 4 ∷ 4 ∷ []) 4 ∷ term (4 ∷ 3 ∷ 4 ∷ 4 ∷ []) 1 ∷ []
+square_derivative : skew_derivative square 4 (single (4 ∷ 3 ∷ 4 ∷ 4 ∷ 4 ∷ [])) ≡ term (1 ∷ 4 ∷ 4 ∷ 4 ∷ []) 4 ∷ term (4 ∷ 3 ∷ 4 ∷ 4 ∷ []) 2 ∷ term (4 ∷ 3 ∷ 4 ∷ 4 ∷ []) 4 ∷ term (4 ∷ 3 ∷ 4 ∷ 4 ∷ []) 1 ∷ []
 unfolding field_on_numerals entry derived_word
 square_derivative = refl
 
@@ -113,7 +113,7 @@ twisted_lift : lift twisted_three (3 ∷ 1 ∷ 2 ∷ []) (2 ∷ 3 ∷ 1 ∷ []) 
 unfolding field_on_numerals entry lift
 twisted_lift = refl
 
-twisted_derivative : derived twisted_three 1 (single (1 ∷ 1 ∷ 2 ∷ 1 ∷ 2 ∷ [])) ≡ term (1 ∷ 3 ∷ 1 ∷ 3 ∷ []) 1 ∷ term (1 ∷ 3 ∷ 1 ∷ 3 ∷ []) 2 ∷ term (1 ∷ 1 ∷ 2 ∷ 3 ∷ []) 3 ∷ []
+twisted_derivative : skew_derivative twisted_three 1 (single (1 ∷ 1 ∷ 2 ∷ 1 ∷ 2 ∷ [])) ≡ term (1 ∷ 3 ∷ 1 ∷ 3 ∷ []) 1 ∷ term (1 ∷ 3 ∷ 1 ∷ 3 ∷ []) 2 ∷ term (1 ∷ 1 ∷ 2 ∷ 3 ∷ []) 3 ∷ []
 unfolding field_on_numerals entry derived_word
 twisted_derivative = refl
 
@@ -164,21 +164,21 @@ beyond n m = if nat_lt n m then Some n else None
 abbrev of_order_two : BraidValue
 of_order_two = record { field = prime_field (pos 3); letters = 1; rack = 1 ∷ []; cocycle = 2 ∷ [] }
 
-closed_degrees : finished is_in_kernel of_order_two (beyond 3) ≡ 0 ∷ 1 ∷ 2 ∷ []
-unfolding field_on_numerals entry lift permutations lifts is_in_kernel is_zero words words_before combinations are_congruent is_least basis finished finished_from
+closed_degrees : degrees_finished is_in_kernel of_order_two (beyond 3) ≡ 0 ∷ 1 ∷ 2 ∷ []
+unfolding field_on_numerals entry lift permutations lifts is_in_kernel is_zero words words_before combinations are_congruent is_least basis degrees_finished finished_from
 closed_degrees = refl
 
 closed_without_a_stop : stop_of is_in_kernel of_order_two (beyond 3) ≡ None
-unfolding field_on_numerals entry lift permutations lifts is_in_kernel is_zero words words_before combinations are_congruent is_least basis finished finished_from is_closed stop_of
+unfolding field_on_numerals entry lift permutations lifts is_in_kernel is_zero words words_before combinations are_congruent is_least basis degrees_finished finished_from is_closed stop_of
 closed_without_a_stop = refl
 
 abbrev of_order_four : BraidValue
 of_order_four = record { field = prime_field (pos 5); letters = 1; rack = 1 ∷ []; cocycle = 3 ∷ [] }
 
-stopped_degrees : finished is_in_kernel of_order_four (beyond 1) ≡ 0 ∷ 1 ∷ []
-unfolding field_on_numerals entry lift permutations lifts is_in_kernel is_zero words words_before combinations are_congruent is_least basis finished finished_from
+stopped_degrees : degrees_finished is_in_kernel of_order_four (beyond 1) ≡ 0 ∷ 1 ∷ []
+unfolding field_on_numerals entry lift permutations lifts is_in_kernel is_zero words words_before combinations are_congruent is_least basis degrees_finished finished_from
 stopped_degrees = refl
 
 stopped_by_the_limit : stop_of is_in_kernel of_order_four (beyond 1) ≡ Some 1
-unfolding field_on_numerals entry lift permutations lifts is_in_kernel is_zero words words_before combinations are_congruent is_least basis finished finished_from is_closed stop_of
+unfolding field_on_numerals entry lift permutations lifts is_in_kernel is_zero words words_before combinations are_congruent is_least basis degrees_finished finished_from is_closed stop_of
 stopped_by_the_limit = refl

@@ -17,7 +17,7 @@ cross_scalar braid (suc (suc i)) (a ∷ w) = cross_scalar braid (suc i) w
 cross_scalar braid _ w = 1
 
 -- the crossings at these places in turn, with the product of the scalars met
-abbrev pub crossed : BraidValue → List ℕ → Term → Term
-crossed braid [] t = t
-crossed braid (i ∷ places) t =
-    crossed braid places (record { word = cross braid i t.word; coefficient = times braid.field t.coefficient (cross_scalar braid i t.word) })
+abbrev pub crossed_term : BraidValue → List ℕ → Term → Term
+crossed_term braid [] t = t
+crossed_term braid (i ∷ places) t =
+    crossed_term braid places (record { word = cross braid i t.word; coefficient = times braid.field t.coefficient (cross_scalar braid i t.word) })

@@ -1,7 +1,7 @@
 -- Skew derivations (Heckenberger and Schneider, "Hopf Algebras and Root Systems").
 use Rattle.std.specs.Prelude.{ℕ, List, [], ◌∷◌, ◌++◌, map, if◌then◌else◌, nat_eq}
 use Rattle.nichols_field.specs.Field.{times}
-use Rattle.nichols_tensor.specs.Combination.{Combination, extended}
+use Rattle.nichols_tensor.specs.Combination.{Combination, linear_map}
 use Rattle.nichols_braid.specs.Braid.{BraidValue, act, scalar}
 
 -- the product of the scalars that a meets as it passes a word
@@ -17,5 +17,5 @@ derived_word braid a (x ∷ w) =
     ++ map (λ t. record { word = x ∷ t.word; coefficient = t.coefficient }) (derived_word braid a w)
 
 -- the skew derivation by a
-abbrev pub derived : BraidValue → ℕ → Combination → Combination
-derived braid a f = extended braid.field (derived_word braid a) f
+abbrev pub skew_derivative : BraidValue → ℕ → Combination → Combination
+skew_derivative braid a f = linear_map braid.field (derived_word braid a) f

@@ -25,13 +25,13 @@ finished_from vanishes braid stops (suc left) m =
     else m ∷ (if is_empty_degree vanishes braid m then [] else finished_from vanishes braid stops left (suc m))
 
 -- the finished degrees
-unfoldable pub finished : {X : Type 0} → Vanishing → BraidValue → (ℕ → Option X) → List ℕ
-finished vanishes braid stops = finished_from vanishes braid stops (suc MOST_DEGREES) 0
+unfoldable pub degrees_finished : {X : Type 0} → Vanishing → BraidValue → (ℕ → Option X) → List ℕ
+degrees_finished vanishes braid stops = finished_from vanishes braid stops (suc MOST_DEGREES) 0
 
 -- whether the algebra is closed: some finished degree is empty, which is then the last
 unfoldable pub is_closed : {X : Type 0} → Vanishing → BraidValue → (ℕ → Option X) → Bool
-is_closed vanishes braid stops = list_any (is_empty_degree vanishes braid) (finished vanishes braid stops)
+is_closed vanishes braid stops = list_any (is_empty_degree vanishes braid) (degrees_finished vanishes braid stops)
 
 -- what stops the degree after the last finished one, where the algebra isn't closed
 unfoldable pub stop_of : {X : Type 0} → Vanishing → BraidValue → (ℕ → Option X) → Option X
-stop_of vanishes braid stops = if is_closed vanishes braid stops then None else stops (length (finished vanishes braid stops))
+stop_of vanishes braid stops = if is_closed vanishes braid stops then None else stops (length (degrees_finished vanishes braid stops))

@@ -5,7 +5,7 @@ use Rattle.std.specs.List.{range_with_len, Contains}
 use Rattle.nichols_braid.specs.declared.TheConstants.{MOST_DEGREES}
 use Rattle.nichols_braid.specs.Braid.{BraidValue}
 use Rattle.nichols_braid.specs.Kernel.{Vanishing}
-use Rattle.nichols_braid.specs.End.{is_empty_degree, finished, is_closed, stop_of}
+use Rattle.nichols_braid.specs.End.{is_empty_degree, degrees_finished, is_closed, stop_of}
 
 -- no degree up to m is stopped
 abbrev pub AreFreeUpTo : {X : Type 0} → (ℕ → Option X) → ℕ → Type 0
@@ -16,8 +16,8 @@ AreFreeUpTo stops m = (j : ℕ) → j ≤ m → stops j ≡ None
 abbrev pub FinishedDegrees : Type 0 → Type 0
 FinishedDegrees X =
     (vanishes : Vanishing) (braid : BraidValue) (stops : ℕ → Option X) →
-    ((m : ℕ) → Contains (finished vanishes braid stops) m ↔ ((m ≤ MOST_DEGREES) × AreFreeUpTo stops m × ((j : ℕ) → j < m → is_empty_degree vanishes braid j ≡ false)))
-    × (finished vanishes braid stops ≡ range_with_len 0 (length (finished vanishes braid stops)))
+    ((m : ℕ) → Contains (degrees_finished vanishes braid stops) m ↔ ((m ≤ MOST_DEGREES) × AreFreeUpTo stops m × ((j : ℕ) → j < m → is_empty_degree vanishes braid j ≡ false)))
+    × (degrees_finished vanishes braid stops ≡ range_with_len 0 (length (degrees_finished vanishes braid stops)))
 
 -- the algebra is closed exactly where some degree is empty that nothing stops, nor any degree below it
 abbrev pub ClosedWhereADegreeIsEmpty : Type 0 → Type 0
@@ -27,8 +27,8 @@ ClosedWhereADegreeIsEmpty X =
 
 -- m is the first degree that isn't finished, and s is what stops it
 pub record IsStoppedAt {X : Type 0} (vanishes : Vanishing) (braid : BraidValue) (stops : ℕ → Option X) (m : ℕ) (s : X) : Type 0 where
-  pub below : (j : ℕ) → j < m → Contains (finished vanishes braid stops) j
-  pub unfinished : Contains (finished vanishes braid stops) m → ⊥
+  pub below : (j : ℕ) → j < m → Contains (degrees_finished vanishes braid stops) j
+  pub unfinished : Contains (degrees_finished vanishes braid stops) m → ⊥
   pub stop : stops m ≡ Some s
 
 -- where each degree above the greatest is stopped, the algebra is closed or its stop is known; the stop is s exactly where

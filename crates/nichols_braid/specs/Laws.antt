@@ -1,10 +1,10 @@
 -- What the laws of this crate say.
 use Rattle.std.specs.Prelude.{◌≡◌, ℕ, suc, true, [], ◌++◌, if◌then◌else◌, nat_eq}
-use Rattle.nichols_tensor.specs.Combination.{Combination, HasSameValues, scaled}
+use Rattle.nichols_tensor.specs.Combination.{Combination, HasSameValues, scalar_multiple}
 use Rattle.nichols_braid.specs.Braid.{BraidValue, IsBraid, IsLetter, act, scalar}
-use Rattle.nichols_braid.specs.Symmetrizer.{permutations, symmetrized}
+use Rattle.nichols_braid.specs.Symmetrizer.{permutations, symmetrizer_image}
 use Rattle.nichols_braid.specs.Rearrangement.{HoldsEachOnce}
-use Rattle.nichols_braid.specs.Derivation.{derived}
+use Rattle.nichols_braid.specs.Derivation.{skew_derivative}
 use Rattle.nichols_braid.specs.Kernel.{IsKilled, IsInKernel, is_killed, is_in_kernel}
 use Rattle.nichols_braid.specs.RightProduct.{times_letter}
 use Rattle.nichols_braid.specs.LinearMap.{IsLinearMap}
@@ -13,17 +13,17 @@ use Rattle.nichols_braid.specs.RightIdealTest.{IsRightIdealTest}
 
 -- the quantum symmetrizer is linear
 abbrev pub SymmetrizerIsLinear : Type 0
-SymmetrizerIsLinear = (braid : BraidValue) → IsBraid braid → IsLinearMap braid.field (symmetrized braid)
+SymmetrizerIsLinear = (braid : BraidValue) → IsBraid braid → IsLinearMap braid.field (symmetrizer_image braid)
 
 -- each skew derivation is linear
 abbrev pub DerivationsAreLinear : Type 0
-DerivationsAreLinear = (braid : BraidValue) → IsBraid braid → (a : ℕ) → IsLinearMap braid.field (derived braid a)
+DerivationsAreLinear = (braid : BraidValue) → IsBraid braid → (a : ℕ) → IsLinearMap braid.field (skew_derivative braid a)
 
 -- the skew derivation from the right end: `∂_a(f x_b) = [a = b] f + q(a, b) ∂_a(f) x_{a ▷ b}`, where `[a = b]` is 1 or 0
 abbrev pub DerivationRule : Type 0
 DerivationRule =
     (braid : BraidValue) → IsBraid braid → (a b : ℕ) (f : Combination) →
-    HasSameValues braid.field (derived braid a (times_letter f b)) ((if nat_eq a b then f else []) ++ scaled braid.field (scalar braid a b) (times_letter (derived braid a f) (act braid a b)))
+    HasSameValues braid.field (skew_derivative braid a (times_letter f b)) ((if nat_eq a b then f else []) ++ scalar_multiple braid.field (scalar braid a b) (times_letter (skew_derivative braid a f) (act braid a b)))
 
 -- where f of degree m is killed by the derivations, so is `f x_b`, for each letter b
 abbrev pub KilledIsRightIdeal : Type 0

@@ -3,7 +3,7 @@ use Rattle.std.specs.Prelude.{◌≡◌, ◌≢◌, ℕ, true, false, List, [], 
 use Rattle.std.specs.List.{AllByRecursion, Contains}
 use Rattle.std.specs.declared.cmp.Ordering.TheVariants.{Less, Greater}
 use Rattle.nichols_field.specs.Field.{IsField}
-use Rattle.nichols_tensor.specs.Combination.{Combination, HasSameValues, IsZero, AllElements, AllAmong, single, scaled, minus}
+use Rattle.nichols_tensor.specs.Combination.{Combination, HasSameValues, IsZero, AllElements, AllAmong, single, scalar_multiple, minus}
 use Rattle.nichols_tensor.specs.Words.{IsWordOver, IsOver, HasDegree}
 use Rattle.nichols_tensor.specs.WordOrder.{word_cmp, IsRising, IsOrdered}
 use Rattle.nichols_braid.specs.Braid.{BraidValue}
@@ -45,8 +45,8 @@ BasisHasLeastWords =
     IsRising (basis vanishes braid m) × ((w : List ℕ) → IsListedIfLeast vanishes braid m w)
 
 -- a combination of least words that is zero in the algebra is zero
-abbrev pub BasisIsIndependent : Type 0
-BasisIsIndependent =
+abbrev pub LeastWordsAreIndependent : Type 0
+LeastWordsAreIndependent =
     (vanishes : Vanishing) (braid : BraidValue) → IsField braid.field → (m : ℕ) → IsLinearTest braid.field (vanishes braid m) →
     (f : Combination) → AllAmong f (basis vanishes braid m) → vanishes braid m f ≡ true → IsZero braid.field f
 
@@ -93,7 +93,7 @@ pub record IsLinearOnDegree (vanishes : Vanishing) (braid : BraidValue) (m : ℕ
   pub sums : (f g : Combination) → HasDegree m f → IsOver braid.letters f → HasDegree m g → IsOver braid.letters g →
       HasSameValues braid.field (normal_form vanishes braid m (f ++ g)) (normal_form vanishes braid m f ++ normal_form vanishes braid m g)
   pub multiples : (c : ℕ) (f : Combination) → HasDegree m f → IsOver braid.letters f →
-      HasSameValues braid.field (normal_form vanishes braid m (scaled braid.field c f)) (scaled braid.field c (normal_form vanishes braid m f))
+      HasSameValues braid.field (normal_form vanishes braid m (scalar_multiple braid.field c f)) (scalar_multiple braid.field c (normal_form vanishes braid m f))
 
 -- the normal form is a linear map
 abbrev pub NormalFormIsLinear : Type 0

@@ -1,6 +1,6 @@
 -- Products with a letter from the left, and a letter carried past words from the left.
 use Rattle.std.specs.Prelude.{ℕ, List, [], ◌∷◌, map}
-use Rattle.nichols_tensor.specs.Combination.{Combination, extended}
+use Rattle.nichols_tensor.specs.Combination.{Combination, linear_map}
 use Rattle.nichols_braid.specs.Braid.{BraidValue, act}
 use Rattle.nichols_braid.specs.Derivation.{scalars_met}
 
@@ -13,5 +13,5 @@ abbrev pub carried_word : BraidValue → ℕ → List ℕ → Combination
 carried_word braid a w = record { word = map (act braid a) w; coefficient = scalars_met braid a w } ∷ []
 
 -- θ_a f: a carried past each word
-abbrev pub carried : BraidValue → ℕ → Combination → Combination
-carried braid a f = extended braid.field (carried_word braid a) f
+abbrev pub carried_past : BraidValue → ℕ → Combination → Combination
+carried_past braid a f = linear_map braid.field (carried_word braid a) f

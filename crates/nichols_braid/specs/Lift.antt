@@ -3,13 +3,13 @@ use Rattle.std.specs.Prelude.{ℕ, zero, suc, ◌+◌, ◌*◌, ◌<◌, ◌≤�
 use Rattle.std.specs.Option.{option_map, option_map_or}
 use Rattle.nichols_tensor.specs.Combination.{Term}
 use Rattle.nichols_braid.specs.Braid.{BraidValue}
-use Rattle.nichols_braid.specs.Crossing.{crossed}
+use Rattle.nichols_braid.specs.Crossing.{crossed_term}
 
 -- the entries at place i and the next, exchanged
-abbrev pub exchanged : ℕ → List ℕ → List ℕ
-exchanged (suc zero) (a ∷ b ∷ ends) = b ∷ a ∷ ends
-exchanged (suc (suc i)) (a ∷ ends) = a ∷ exchanged (suc i) ends
-exchanged _ ends = ends
+abbrev pub exchanged_at : ℕ → List ℕ → List ℕ
+exchanged_at (suc zero) (a ∷ b ∷ ends) = b ∷ a ∷ ends
+exchanged_at (suc (suc i)) (a ∷ ends) = a ∷ exchanged_at (suc i) ends
+exchanged_at _ ends = ends
 
 -- the entry at place i is greater than the next one
 abbrev pub IsDescentAt : ℕ → List ℕ → Type 0
@@ -29,7 +29,7 @@ IsSorted (a ∷ b ∷ ends) = (a ≤ b) × IsSorted (b ∷ ends)
 -- same lift is Matsumoto's theorem)
 abbrev pub IsDescending : List ℕ → List ℕ → Type 0
 IsDescending ends [] = IsSorted ends
-IsDescending ends (i ∷ places) = IsDescentAt i ends × IsDescending (exchanged i ends) places
+IsDescending ends (i ∷ places) = IsDescentAt i ends × IsDescending (exchanged_at i ends) places
 
 -- the least place whose entry is greater than the next one
 abbrev pub first_descent : List ℕ → Option ℕ
@@ -40,7 +40,7 @@ first_descent (a ∷ b ∷ ends) = if nat_lt b a then Some 1 else option_map (λ
 -- the least descents one after the other, at most this many
 abbrev pub least_descents : ℕ → List ℕ → List ℕ
 least_descents zero ends = []
-least_descents (suc n) ends = option_map_or (λ i. i ∷ least_descents n (exchanged i ends)) (first_descent ends) []
+least_descents (suc n) ends = option_map_or (λ i. i ∷ least_descents n (exchanged_at i ends)) (first_descent ends) []
 
 -- the descending list that always takes the least place
 abbrev pub bubble : List ℕ → List ℕ
@@ -48,4 +48,4 @@ bubble ends = least_descents (length ends * length ends) ends
 
 -- the braiding's positive lift of a permutation, at a word: the word and the scalar
 unfoldable pub lift : BraidValue → List ℕ → List ℕ → Term
-lift braid ends w = crossed braid (bubble ends) (record { word = w; coefficient = 1 })
+lift braid ends w = crossed_term braid (bubble ends) (record { word = w; coefficient = 1 })

@@ -7,13 +7,13 @@ use Rattle.nichols_braid.specs.Braid.{BraidValue, act}
 use Rattle.nichols_braid.specs.Rearrangement.{IsRearrangement}
 
 -- where the product of a word sends a letter: the map of the last letter is applied first
-abbrev pub moved : BraidValue → List ℕ → ℕ → ℕ
-moved braid [] j = j
-moved braid (i ∷ w) j = act braid i (moved braid w j)
+abbrev pub product_image : BraidValue → List ℕ → ℕ → ℕ
+product_image braid [] j = j
+product_image braid (i ∷ w) j = act braid i (product_image braid w j)
 
 -- the product of a word, as the list of the images of letters 1 to n
 unfoldable pub product_of : BraidValue → List ℕ → List ℕ
-product_of braid w = map (moved braid w) (up_to braid.letters)
+product_of braid w = map (product_image braid w) (up_to braid.letters)
 
 -- whether a word has this product
 abbrev pub has_product : BraidValue → List ℕ → List ℕ → Bool

@@ -4,7 +4,7 @@ use Rattle.std.specs.List.{AllByRecursion}
 use Rattle.nichols_tensor.specs.Combination.{Term, Combination}
 use Rattle.nichols_tensor.specs.Words.{IsWordOver, IsOver}
 use Rattle.nichols_braid.specs.Braid.{BraidValue, IsBraid, IsLetter, act}
-use Rattle.nichols_braid.specs.Crossing.{cross, crossed}
+use Rattle.nichols_braid.specs.Crossing.{cross, crossed_term}
 use Rattle.nichols_braid.specs.Symmetrizer.{lifts}
 use Rattle.nichols_braid.specs.Derivation.{derived_word}
 use Rattle.nichols_braid.specs.Kernel.{IsKilled, IsInKernel}
@@ -31,7 +31,7 @@ CrossingKeepsProduct = (braid : BraidValue) → IsBraid braid → (i : ℕ) (w :
 -- so do the crossings at any list of places
 abbrev pub CrossingsKeepProduct : Type 0
 CrossingsKeepProduct =
-    (braid : BraidValue) → IsBraid braid → (places : List ℕ) (t : Term) → IsWordOver braid.letters t.word → product_of braid (crossed braid places t).word ≡ product_of braid t.word
+    (braid : BraidValue) → IsBraid braid → (places : List ℕ) (t : Term) → IsWordOver braid.letters t.word → product_of braid (crossed_term braid places t).word ≡ product_of braid t.word
 
 -- each lift of a word has the product of the word
 abbrev pub LiftsKeepProduct : Type 0

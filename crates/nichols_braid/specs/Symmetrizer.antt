@@ -2,7 +2,7 @@
 -- (Heckenberger and Schneider, "Hopf Algebras and Root Systems").
 use Rattle.std.specs.Prelude.{ℕ, zero, suc, ◌-◌, List, [], ◌∷◌, length, map, insert}
 use Rattle.std.specs.List.{flat_map}
-use Rattle.nichols_tensor.specs.Combination.{Combination, extended}
+use Rattle.nichols_tensor.specs.Combination.{Combination, linear_map}
 use Rattle.nichols_tensor.specs.Words.{up_to}
 use Rattle.nichols_braid.specs.Braid.{BraidValue}
 use Rattle.nichols_braid.specs.Lift.{lift}
@@ -17,5 +17,5 @@ unfoldable pub lifts : BraidValue → List ℕ → Combination
 lifts braid w = map (λ ends. lift braid ends w) (permutations (length w))
 
 -- the image under the quantum symmetrizer of the degree of each word
-abbrev pub symmetrized : BraidValue → Combination → Combination
-symmetrized braid f = extended braid.field (lifts braid) f
+abbrev pub symmetrizer_image : BraidValue → Combination → Combination
+symmetrizer_image braid f = linear_map braid.field (lifts braid) f

@@ -8,7 +8,7 @@ pub mod products;
 ghost use Rattle.nichols_braid.specs.TableLaws.{BraidsAreAccepted, AcceptedTablesAreBraids, FirstFaultsAreNamed};
 ghost use Rattle.nichols_braid.specs.FaultLaws.{FirstAnswersAreLeast, FirstTriplesAreLeast};
 ghost use Rattle.nichols_braid.specs.Laws.{PermutationsHoldEachOnce, SymmetrizerIsLinear, DerivationsAreLinear, DerivationRule, KilledIsRightIdeal, KilledIsDecided, KernelIsDecided, KilledIsLinear, KernelIsLinear, KilledIsIdealFromRight};
-ghost use Rattle.nichols_braid.specs.LeastLaws.{LeastWordsAreTested, BasisHasLeastWords, BasisIsIndependent, NormalFormsAreUnique, NormalFormsLookBack, NormalFormsTellClasses, ZeroHasNoTerms, NormalFormIsLinear, LeastWordsAreNormal, AgreeingTestsReadAlike, BasisIsAmongCandidates, RelationsRise};
+ghost use Rattle.nichols_braid.specs.LeastLaws.{LeastWordsAreTested, BasisHasLeastWords, LeastWordsAreIndependent, NormalFormsAreUnique, NormalFormsLookBack, NormalFormsTellClasses, ZeroHasNoTerms, NormalFormIsLinear, LeastWordsAreNormal, AgreeingTestsReadAlike, BasisIsAmongCandidates, RelationsRise};
 ghost use Rattle.nichols_braid.specs.WholeLaws.{KernelByParts, NormalFormsByParts, FormsByPartsTellClasses};
 ghost use Rattle.nichols_braid.specs.FormLaws.{CandidateFormsAreListed, DerivativesOfCandidates};
 ghost use Rattle.nichols_braid.specs.EndLaws.{FinishedDegrees, ClosedWhereADegreeIsEmpty, AnEndIsReached};
@@ -106,7 +106,7 @@ pub fn basis_has_least_words()
 /// A combination of least words that is zero in the algebra is zero.
 #[tactic(auto, using(crate::proofs::LeastLaws::least_words_are_independent))]
 pub fn least_words_are_independent()
-    ensures { BasisIsIndependent }
+    ensures { LeastWordsAreIndependent }
 {}
 
 /// Each combination of words of m letters is congruent to exactly one combination of least words in order.

@@ -7,11 +7,12 @@ ghost use Rattle.nichols_braid.specs.Braid.{BraidValue, IsLetter};
 ghost use Rattle.nichols_braid.specs.Product.{IsProduct, product_after, product_before, product_of};
 
 use crate::Braid;
+use nichols_tensor::LETTER_LIMIT;
 use std::cmp::Ordering;
 use std::marker::Model;
 
 /// The images that are kept inline, one for each letter that a braid may have.
-const ROOM: usize = 24;
+const ROOM: usize = LETTER_LIMIT as usize;
 
 /// The product of a word: the composite of its letters' maps, as the images of the letters from 1 on.
 ///

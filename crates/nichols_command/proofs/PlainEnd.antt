@@ -1,5 +1,6 @@
 -- What clap makes of a plain line after its walk.
 use Rattle.std.proofs.Common.{◌≡◌, ℕ, Bool, cond, true, false, ◌||◌, refl, sym, ◌∙◌, ap, ap₂, List, [], ◌∷◌, ◌++◌, map, codes, append-nil, append_assoc, Option, Some, None}
+use Rattle.std.proofs.lemmas.Bool.{or_right}
 use Rattle.std.specs.Prelude.{fold, is_some, unwrap_or, option_and_then}
 use Rattle.std.specs.Option.{option_or}
 use Rattle.std.specs.List.{AllByRecursion}
@@ -41,15 +42,11 @@ finished_rows found =
     ap (fold with_default found) rules_are ∙ fold_none first_rules (brief_rule ∷ filled help_rule ∷ []) found (refl, (refl, (refl, (refl, (refl, (refl, tt))))))
     ∙ nothing_more (filled help_rule) (with_default found brief_rule) refl
 
-or_true : (b : Bool) → (b || true) ≡ true
-or_true true = refl
-or_true false = refl
-
 abbrev HasNoFault : Rule → Type 0
 HasNoFault a = (found : List Row) → default_fault found a ≡ []
 
 no_default_no_fault : (a : Rule) → is_empty a.defaults ≡ true → HasNoFault a
-no_default_no_fault a e found = rw (e, or_true (has_row a.id found)) refl
+no_default_no_fault a e found = rw (e, or_right (has_row a.id found) true refl) refl
 
 flag_no_fault : HasNoFault brief_rule
 flag_no_fault found = either (has_row (codes "brief") found)

@@ -1,5 +1,6 @@
 -- What clap keeps of the options of a plain line.
-use Rattle.std.proofs.Common.{◌≡◌, Bool, cond, true, false, ◌||◌, refl, ◌∙◌, ap, List, [], ◌∷◌, ◌++◌, map, codes, Some, None}
+use Rattle.std.proofs.Common.{◌≡◌, Bool, cond, true, false, ◌||◌, refl, ◌∙◌, ap, List, [], ◌∷◌, ◌++◌, map, codes, Some, None, append-nil}
+use Rattle.std.proofs.lemmas.Bool.{or_parts}
 use Rattle.std.specs.Prelude.{option_map, option_and_then, slice_get, find, is_some}
 use Rattle.std.specs.Option.{option_or}
 use Rattle.std.specs.Str.{bytes_eq}
@@ -9,7 +10,7 @@ use Rattle.clap.specs.declared.parser.matches.ValueSource.TheVariants.{CommandLi
 use Rattle.clap.specs.declared.builder.value_parser.Reading.{Reading}
 use Rattle.clap.specs.Simple.{filled}
 use Rattle.nichols_command.specs.Texts.{value_rule, flag_rule}
-use Rattle.nichols_command.specs.PlainForm.{degree, rows, workers, window, PlainOption, apart, joined, brief, valued_name, option_name, written, value_at}
+use Rattle.nichols_command.specs.PlainForm.{degree, rows, workers, window, PlainOption, apart, joined, brief, valued_name, option_name, option_value, value_at}
 
 -- the row of one text
 abbrev pub text_row : Text → Reading → ValueSource → Text → Row
@@ -30,13 +31,9 @@ option_reading brief = reading_by brief_rule
 
 -- the row of an option
 abbrev pub option_row : PlainOption → Row
-option_row o = text_row (option_name o) (option_reading o) CommandLine (written o)
+option_row o = text_row (option_name o) (option_reading o) CommandLine (option_value o)
 
 -- ---- rows without an id
-
-or_parts : (a b : Bool) → (a || b) ≡ false → (a ≡ false) × (b ≡ false)
-or_parts true b e = absurd (let bad : true ≡ false = e in cc)
-or_parts false b e = (refl, e)
 
 pub row_behind : (id : Text) (change : Row → List Row) (missing found : List Row) → has_row id found ≡ false → at_row id change missing found ≡ found ++ missing
 row_behind id change missing [] e = refl
@@ -44,12 +41,8 @@ row_behind id change missing (r ∷ rs) e =
     let parts : (bytes_eq r.id id ≡ false) × (has_row id rs ≡ false) = or_parts (bytes_eq r.id id) (has_row id rs) e in
     rw parts.0 (ap (λ xs. r ∷ xs) (row_behind id change missing rs parts.1))
 
-nothing_behind : (found : List Row) → found ++ [] ≡ found
-nothing_behind [] = refl
-nothing_behind (r ∷ rs) = ap (λ xs. r ∷ xs) (nothing_behind rs)
-
 pub without_same : (id : Text) (found : List Row) → has_row id found ≡ false → without id found ≡ found
-without_same id found e = row_behind id (λ _. []) [] found e ∙ nothing_behind found
+without_same id found e = row_behind id (λ _. []) [] found e ∙ append-nil found
 
 -- a text of an id that has no row makes one, behind the others
 pub new_row : (id : Text) (how : Reading) (source : ValueSource) (text : Text) (found : List Row) → has_row id found ≡ false →
@@ -72,7 +65,7 @@ first_of_options id (o ∷ options) more = at (bytes_eq (option_name o) id) (fir
   where
     at : (b : Bool) → first_of id (map option_row options ++ more) ≡ option_or (value_at id options) (first_of id more) →
         option_and_then (λ (r : Row). slice_get r.values 0) (cond b (Some (option_row o)) (find (λ r. bytes_eq r.id id) (map option_row options ++ more)))
-        ≡ option_or (option_map written (cond b (Some o) (find (λ option. bytes_eq (option_name option) id) options))) (first_of id more)
+        ≡ option_or (option_map option_value (cond b (Some o) (find (λ option. bytes_eq (option_name option) id) options))) (first_of id more)
     at true rest = refl
     at false rest = rest
 
@@ -82,7 +75,7 @@ value_of_row id [] e = e
 value_of_row id (o ∷ options) e = at (bytes_eq (option_name o) id) e (value_of_row id options)
   where
     at : (b : Bool) → (b || has_row id (map option_row options)) ≡ true → (has_row id (map option_row options) ≡ true → is_some (value_at id options) ≡ true) →
-        is_some (option_map written (cond b (Some o) (find (λ option. bytes_eq (option_name option) id) options))) ≡ true
+        is_some (option_map option_value (cond b (Some o) (find (λ option. bytes_eq (option_name option) id) options))) ≡ true
     at true e rest = refl
     at false e rest = rest e
 

@@ -1,5 +1,6 @@
 -- The walk of clap over the words of a plain line.
-use Rattle.std.proofs.Common.{◌≡◌, ◌==◌, ℕ, Bool, not, true, false, refl, sym, ◌∙◌, ap, ap₂, List, [], ◌∷◌, ◌++◌, map, codes, subst, ◌||◌, append-nil, append_assoc, Option, Some, None}
+use Rattle.std.proofs.Common.{◌≡◌, ◌==◌, ℕ, true, false, refl, sym, ◌∙◌, ap, ap₂, List, [], ◌∷◌, ◌++◌, map, codes, subst, ◌||◌, append-nil, append_assoc, Option, Some, None}
+use Rattle.std.proofs.lemmas.Bool.{not-true}
 use Rattle.std.specs.Prelude.{fold}
 use Rattle.std.specs.List.{flat_map, AllByRecursion, IsDistinct}
 use Rattle.std.specs.Str.{bytes_eq}
@@ -10,7 +11,7 @@ use Rattle.clap.specs.Faults.{settle_fault, turn_fault, walk_fault}
 use Rattle.clap.specs.Kinds.{Kinds, or_else}
 use Rattle.clap.specs.declared.parser.matches.ValueSource.TheVariants.{CommandLine}
 use Rattle.nichols_command.specs.Texts.{nichols_app, command_rule, points_rule}
-use Rattle.nichols_command.specs.PlainForm.{Valued, degree, rows, workers, window, PlainOption, apart, joined, brief, valued_name, option_name, option_words, written, is_value, PlainLine, IsPlain, line_words, optional_word}
+use Rattle.nichols_command.specs.PlainForm.{Valued, degree, rows, workers, window, PlainOption, apart, joined, brief, valued_name, option_name, option_words, option_value, is_value, PlainLine, IsPlain, line_words, optional_word}
 use Rattle.nichols_command.proofs.PlainRows.{option_rule, brief_rule, text_row, option_row, new_row, has_row-append}
 
 -- ---- the command as it is built
@@ -82,14 +83,10 @@ same_name rows = refl
 same_name workers = refl
 same_name window = refl
 
-negated : (b : Bool) → not b ≡ true → b ≡ false
-negated true e = absurd (let bad : false ≡ true = e in cc)
-negated false e = refl
-
 -- a value is no flag
 value_is_plain : (text : Text) → is_value text ≡ true → (bytes_eq text (codes "--") ≡ false) × (long_of text ≡ None) × (short_of text ≡ None)
 value_is_plain [] e = absurd (let bad : false ≡ true = e in cc)
-value_is_plain (c ∷ text) e = let other : (c == 45) ≡ false = negated (c == 45) e in (rw other refl, rw other refl, rw other refl)
+value_is_plain (c ∷ text) e = let other : (c == 45) ≡ false = not-true (c == 45) e in (rw other refl, rw other refl, rw other refl)
 
 -- ---- places in the walk
 
@@ -192,7 +189,7 @@ pub record Reaches (before : Walk) (words : List Text) (k : ℕ) (all : List Row
   pub over : GoesOverAll before words (place found pending idle k)
   pub is : IsSettled found pending all
 
-over_option : (o : PlainOption) (found : List Row) (pending : Option (Text × List Text)) (all : List Row) (k : ℕ) → IsSettled found pending all → is_value (written o) ≡ true → has_row (option_name o) all ≡ false →
+over_option : (o : PlainOption) (found : List Row) (pending : Option (Text × List Text)) (all : List Row) (k : ℕ) → IsSettled found pending all → is_value (option_value o) ≡ true → has_row (option_name o) all ≡ false →
     Reaches (place found pending idle k) (option_words o) k (all ++ option_row o ∷ [])
 over_option (apart v text) found pending all k is value free = record {
   found = all;
@@ -234,7 +231,7 @@ free_behind o (p ∷ options) all free other = (
 )
 
 over_options : (options : List PlainOption) (found : List Row) (pending : Option (Text × List Text)) (all : List Row) (k : ℕ) → IsSettled found pending all →
-    AllByRecursion (λ o. is_value (written o) ≡ true) options → AllByRecursion (λ o. has_row (option_name o) all ≡ false) options → IsDistinct bytes_eq (map option_name options) →
+    AllByRecursion (λ o. is_value (option_value o) ≡ true) options → AllByRecursion (λ o. has_row (option_name o) all ≡ false) options → IsDistinct bytes_eq (map option_name options) →
     Reaches (place found pending idle k) (flat_map option_words options) k (all ++ map option_row options)
 unfolding IsDistinct
 over_options [] found pending all k is values free once =

@@ -24,7 +24,7 @@ all_numbers (Some degree_limit) (Some rows_limit) (Some workers) (Some window) b
     Some (record { degree_limit = degree_limit; rows_limit = rows_limit; workers = workers; window = window; brief = brief })
 all_numbers _ _ _ _ brief = None
 
--- the options of texts, where each number is 1 to 9 digits and in its range
+-- the options of texts, where each number is in its range
 abbrev pub options_of : Texts → Option Options
 options_of texts =
     all_numbers (option_number 0 MOST_DEGREES DEGREE_DEFAULT texts.degree) (option_number 1 MOST_ROWS ROWS_DEFAULT texts.rows)
@@ -33,9 +33,9 @@ options_of texts =
 -- ---- the command
 
 -- a task, whose command goes without `points`
-abbrev pub alone : Option (List ℕ) → Task → Option Command
-alone None task = Some (OnDocument task)
-alone (Some points) task = None
+abbrev pub without_points : Option (List ℕ) → Task → Option Command
+without_points None task = Some (OnDocument task)
+without_points (Some points) task = None
 
 -- the command of a number of points, which `points` writes
 abbrev pub of_points : Option (List ℕ) → Options → Option Command
@@ -43,17 +43,17 @@ of_points None options = None
 of_points (Some text) options = option_map (λ k. Points k options) (option_and_then (in_range POINTS_LEAST POINTS_MOST) (short_number text))
 
 -- the command with this name, where there is one and its `points` are as it asks
-abbrev pub named : List ℕ → Option (List ℕ) → Options → Option Command
-named name points options =
-    if bytes_eq name (codes "algebra") then alone points (Algebra options)
-    else if bytes_eq name (codes "reduce") then alone points (Reduce options)
-    else if bytes_eq name (codes "symmetrize") then alone points Symmetrize
+abbrev pub command_named : List ℕ → Option (List ℕ) → Options → Option Command
+command_named name points options =
+    if bytes_eq name (codes "algebra") then without_points points (Algebra options)
+    else if bytes_eq name (codes "reduce") then without_points points (Reduce options)
+    else if bytes_eq name (codes "symmetrize") then without_points points Symmetrize
     else if bytes_eq name (codes "points") then of_points points options
     else None
 
 -- the command of texts, where there is a name and the options are right
 abbrev pub named_texts : Option (List ℕ) → Option (List ℕ) → Option Options → Option Command
-named_texts (Some name) points (Some options) = named name points options
+named_texts (Some name) points (Some options) = command_named name points options
 named_texts _ points _ = None
 
 abbrev pub command_of_texts : Texts → Option Command

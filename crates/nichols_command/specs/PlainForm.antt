@@ -61,23 +61,23 @@ option_name (joined option value) = valued_name option
 option_name brief = codes "brief"
 
 -- what is written for an option; the flag stands for `true`
-abbrev pub written : PlainOption → Text
-written (apart option value) = value
-written (joined option value) = value
-written brief = codes "true"
+abbrev pub option_value : PlainOption → Text
+option_value (apart option value) = value
+option_value (joined option value) = value
+option_value brief = codes "true"
 
 -- the words and the values aren't empty and don't begin with `-`, and each option is there at most once
 pub record IsPlain (line : PlainLine) : Type 0 where
   pub command : is_value line.command ≡ true
   pub points : AllByRecursion (λ word. is_value word ≡ true) (optional_word line.points)
-  pub options : AllByRecursion (λ option. is_value (written option) ≡ true) line.options
+  pub options : AllByRecursion (λ option. is_value (option_value option) ≡ true) line.options
   pub once : IsDistinct bytes_eq (map option_name line.options)
 
 -- ---- what a line asks for
 
 -- what is written for the option with this name, where it is there, wherever it stands and in whichever form
 abbrev pub value_at : Text → List PlainOption → Option Text
-value_at name options = option_map written (find (λ option. bytes_eq (option_name option) name) options)
+value_at name options = option_map option_value (find (λ option. bytes_eq (option_name option) name) options)
 
 -- the texts of a line: its words and values as they are written
 abbrev pub line_texts : PlainLine → Texts

@@ -1,7 +1,7 @@
 //! The command of the words of a command line.
 
 ghost use Rattle.std.specs.Prelude.{◌≡◌, IfOk, IfSome, map, option_map, string_bytes};
-ghost use Rattle.nichols_command.specs.Command.{command_of, command_of_texts, options_of, named, alone, of_points, is_set, IsAccepted, IsAcceptedTask, AreInRange};
+ghost use Rattle.nichols_command.specs.Command.{command_of, command_of_texts, options_of, command_named, without_points, of_points, is_set, IsAccepted, IsAcceptedTask, AreInRange};
 ghost use Rattle.nichols_command.specs.Given.{texts_given};
 
 use crate::limits::{
@@ -103,7 +103,7 @@ fn is_set(text: Option<&str>) -> bool
 /// The command with this name, where there is one and its `points` are as it asks.
 fn named(name: &str, points: Option<&str>, options: Options) -> Option<Command>
     requires { AreInRange options }
-    ensures command { result ≡ named name.now (option_map (λ s. s.now) points.entry) options }
+    ensures command { result ≡ command_named name.now (option_map (λ s. s.now) points.entry) options }
     ensures accepted { IfSome result IsAccepted }
 {
     match name {
@@ -118,7 +118,7 @@ fn named(name: &str, points: Option<&str>, options: Options) -> Option<Command>
 /// A task, whose command goes without `points`.
 fn alone(points: Option<&str>, task: Task) -> Option<Command>
     requires { IsAcceptedTask task }
-    ensures command { result ≡ alone (option_map (λ s. s.now) points.entry) task }
+    ensures command { result ≡ without_points (option_map (λ s. s.now) points.entry) task }
     ensures accepted { IfSome result IsAccepted }
 {
     match points {

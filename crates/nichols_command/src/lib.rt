@@ -9,7 +9,8 @@ mod words;
 
 pub use command::{Command, Options, Task, command_of};
 pub use limits::{
-    DEGREE_DEFAULT, ROWS_DEFAULT, WINDOW_DEFAULT, WINDOW_MOST, WORKERS_DEFAULT, WORKERS_MOST,
+    DEGREE_DEFAULT, DIGITS_MOST, ROWS_DEFAULT, WINDOW_DEFAULT, WINDOW_MOST, WORKERS_DEFAULT,
+    WORKERS_MOST,
 };
 
 #[cfg(test)]

@@ -1,5 +1,8 @@
 //! The limits and defaults of the options.
 
+/// The most digits of a number.
+pub const DIGITS_MOST: usize = 9;
+
 /// The degree limit without `--degree`; the greatest is `nichols_braid::MOST_DEGREES`, and the least is 0.
 pub const DEGREE_DEFAULT: u32 = 12;
 

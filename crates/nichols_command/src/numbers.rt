@@ -3,7 +3,10 @@
 ghost use Rattle.std.specs.Prelude.{◌≡◌, ◌≤◌, length, true, option_map, IfSome};
 ghost use Rattle.std.specs.List.{list_all};
 ghost use Rattle.std.specs.Char.{is_ascii_digit};
+ghost use Rattle.nichols_command.specs.declared.limits.TheConstants.{DIGITS_MOST};
 ghost use Rattle.nichols_command.specs.Numbers.{short_number, is_short_number, digits_value, in_range, option_number};
+
+use crate::limits::DIGITS_MOST;
 
 /// The number of an option: the default where it isn't there, and otherwise what its text writes, where that is a number in
 /// the range.
@@ -33,7 +36,7 @@ pub(crate) fn in_range(least: u32, most: u32, n: u32) -> Option<u32>
     }
 }
 
-/// The number that 1 to 9 ASCII digits write.
+/// The number that ASCII digits write, of which there is one at least and no more than a number may have.
 pub(crate) fn short_number(text: &[u8]) -> Option<u32>
     ensures { result ≡ short_number text.now }
 {
@@ -44,13 +47,13 @@ pub(crate) fn short_number(text: &[u8]) -> Option<u32>
     }
 }
 
-/// Whether a text is 1 to 9 ASCII digits.
+/// Whether a text is ASCII digits, one at least and no more than a number may have.
 fn is_short_number(text: &[u8]) -> bool
     ensures value { result ≡ is_short_number text.now }
-    ensures few { result ≡ true → length text.now ≤ 9 }
+    ensures few { result ≡ true → length text.now ≤ DIGITS_MOST }
     ensures digits { result ≡ true → list_all is_ascii_digit text.now ≡ true }
 {
-    1 <= text.len() && text.len() <= 9 && all_digits(text)
+    1 <= text.len() && text.len() <= DIGITS_MOST && all_digits(text)
 }
 
 /// Whether each byte is an ASCII digit.
@@ -62,7 +65,7 @@ fn all_digits(text: &[u8]) -> bool
 
 /// The number that some digits write.
 fn digits_value(text: &[u8]) -> u32
-    requires few { length text.now ≤ 9 }
+    requires few { length text.now ≤ DIGITS_MOST }
     requires digits { list_all is_ascii_digit text.now ≡ true }
     ensures { result ≡ digits_value text.now }
 {

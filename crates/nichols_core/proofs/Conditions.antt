@@ -39,10 +39,10 @@ true_all_laid es m b h = true_every (length es) (λ k. not (eqb (edge_at es k).l
 true_none_picked : (es : List Edge) (m : Machine) (b : ℕ) → NonePicked es m b → none_picked es m.picked b ≡ true
 true_none_picked es m b h = true_every (length es) (λ k. not (eqb (edge_at es k).upper b && m.picked k)) (λ k inside. true_nand (edge_at es k).upper b (m.picked k) (h k inside))
 
-true_held : (w : ℕ) (s : Stage) → s ≡ Held w → is_held_by w s ≡ true
+pub true_held : (w : ℕ) (s : Stage) → s ≡ Held w → is_held_by w s ≡ true
 true_held w s e = ap (is_held_by w) e ∙ eq-eqb w w refl
 
-true_resumed : (w : ℕ) (s : Stage) → s ≡ Resumed w → is_resumed_by w s ≡ true
+pub true_resumed : (w : ℕ) (s : Stage) → s ≡ Resumed w → is_resumed_by w s ≡ true
 true_resumed w s e = ap (is_resumed_by w) e ∙ eq-eqb w w refl
 
 -- an edge that is found is one of its letter

@@ -3,11 +3,12 @@ use Rattle.std.proofs.Common.{ℕ, ◌^◌, ◌<◌, ◌≤◌, cond, List, leng
 use Rattle.std.proofs.lemmas.List.Sorted.{All-permutation, sum_by-IsPermutation, IsPermutation-sym, IsPermutation-trans}
 use Rattle.std.specs.List.{All}
 use Rattle.std.specs.List.Sorted.{IsPermutation, IsNonDecreasingBy}
+use Rattle.nichols_tensor.specs.declared.TheConstants.{LETTER_LIMIT}
 use Rattle.nichols_core.specs.declared.edge.Edge.{Edge}
 use Rattle.nichols_core.specs.Layout.{IsPlaced, CanLayOut, IsLayout, no_edge, edge_at, leaves, enters, exit_place, entry_place, IsRisingBy}
 use Rattle.nichols_core.proofs.Sorted.{rising, one_each, rises, before}
 
-small_letters : (ds : List ℕ) (es : List Edge) → All (IsPlaced ds) es → (k : ℕ) → k < length es → (edge_at es k).letter ≤ 24
+small_letters : (ds : List ℕ) (es : List Edge) → All (IsPlaced ds) es → (k : ℕ) → k < length es → (edge_at es k).letter ≤ LETTER_LIMIT
 small_letters ds es placed k inside = (placed k no_edge inside).to_last
 
 -- in another order

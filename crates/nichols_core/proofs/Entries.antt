@@ -5,6 +5,7 @@ use Rattle.std.specs.List.Sorted.{IsNonDecreasingBy}
 use Rattle.std.proofs.lemmas.List.Sorted.{IsNonDecreasingBy-from_default}
 use mathlib.Core.Logic.{dite}
 use native.Mathlib.Decide.{ℕ_discrete, dec_le}
+use Rattle.nichols_tensor.specs.declared.TheConstants.{LETTER_LIMIT}
 use Rattle.nichols_core.specs.declared.edge.Edge.{Edge}
 use Rattle.nichols_core.specs.Layout.{LayoutValue, IsLayout, IsBefore, no_edge, edge_at, edge_into, entry_place}
 use Rattle.nichols_core.specs.Machine.{none_picked, all_picked}
@@ -13,7 +14,7 @@ use Rattle.nichols_core.proofs.Stages.{every_false, true_every}
 use Rattle.nichols_core.proofs.EdgesFound.{into_is}
 use Rattle.nichols_core.proofs.Conditions.{true_or, true_nand}
 
-place_before : (e f : Edge) → e.letter ≤ 24 → IsBefore e f → entry_place e < entry_place f
+place_before : (e f : Edge) → e.letter ≤ LETTER_LIMIT → IsBefore e f → entry_place e < entry_place f
 place_before e f small (inl h) = omega arith
 place_before e f small (inr h) = omega (arith, h.0, h.1)
 
@@ -22,7 +23,7 @@ upper_before e f (inl h) = omega arith
 upper_before e f (inr h) = omega (arith, h.0)
 
 module _ (l : LayoutValue) (rules : IsLayout l) where
-  small_letter : (k : ℕ) → k < length l.edges → (edge_at l.edges k).letter ≤ 24
+  small_letter : (k : ℕ) → k < length l.edges → (edge_at l.edges k).letter ≤ LETTER_LIMIT
   small_letter k inside = (rules.good.placed k no_edge inside).to_last
 
   places_rise : (j k : ℕ) → j < k → k < length l.edges → entry_place (edge_at l.edges j) < entry_place (edge_at l.edges k)

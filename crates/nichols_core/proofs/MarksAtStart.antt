@@ -1,5 +1,5 @@
 -- The marks of the start: every block is ready and owed by worker 0, and no edge is laid or picked.
-use Rattle.std.proofs.Common.{◌≡◌, ℕ, zero, suc, ◌+◌, ◌*◌, Bool, true, false, cond, eqb, ltb, ◌&&◌, length, replicate, refl, sym, ap, ◌∙◌, ne_eqb, lt-ltb, arith}
+use Rattle.std.proofs.Common.{◌≡◌, ℕ, zero, suc, ◌+◌, ◌*◌, Bool, true, false, cond, eqb, ltb, ◌&&◌, length, replicate, refl, sym, ap, ◌∙◌, ne_eqb, lt-ltb, arith, get_or}
 use Rattle.std.proofs.lemmas.Bool.{le-ltb}
 use Rattle.std.proofs.lemmas.List.{get_or-replicate, get_or_past, length-replicate}
 use Rattle.std.proofs.Math.Bool.{and-false}
@@ -25,11 +25,12 @@ stage_start n b =
     let len : length (replicate n Ready) ≡ n = length-replicate n Ready in
     get_or_past (replicate n Ready) b Published (omega arith) ∙ sym (ap (λ t. cond t Ready Published) (le-ltb b n (omega arith))))
 
-mark_start : (n k : ℕ) → mark_at (replicate n false) k ≡ false
-mark_start n k =
-    dite (dec_le (suc k) n)
-    (λ h. get_or-replicate n k false false h)
-    (λ h. let len : length (replicate n false) ≡ n = length-replicate n false in get_or_past (replicate n false) k false (omega arith))
+-- a list of one element reads as that element, past its end too
+pub everywhere : {A : Type 0} (n i : ℕ) (a : A) → get_or (replicate n a) i a ≡ a
+everywhere n i a =
+    dite (dec_le (suc i) n)
+    (λ h. get_or-replicate n i a a h)
+    (λ h. let len : length (replicate n a) ≡ n = length-replicate n a in get_or_past (replicate n a) i a (omega arith))
 
 owes_start : (n w b : ℕ) → (ltb b n && ltb (w * n + b) n) ≡ (eqb w 0 && ltb b n)
 owes_start n zero b = two (ltb b n) (ltb (0 * n + b) n) (ap (λ k. ltb k n) (omega arith))
@@ -47,8 +48,8 @@ module _ (m : MarksValue) (n e : ℕ) (at : AtStart m n e) where
   machine_at_start = λ i. record {
     stage = λ b. (ap (λ xs. stage_at xs b) at.stages ∙ stage_start n b) i;
     owes = λ w b. (ap (λ z. ltb b z && mark_at m.owed (place_of z w b)) stage_count ∙ (ap (λ t. ltb b n && t) (at.owed (place_of n w b)) ∙ owes_start n w b)) i;
-    laid = λ k. (ap (λ xs. mark_at xs k) at.laid ∙ mark_start e k) i;
-    picked = λ k. (ap (λ xs. mark_at xs k) at.picked ∙ mark_start e k) i;
+    laid = λ k. (ap (λ xs. mark_at xs k) at.laid ∙ everywhere e k false) i;
+    picked = λ k. (ap (λ xs. mark_at xs k) at.picked ∙ everywhere e k false) i;
   }
 
   pub over_at_start : (l : LayoutValue) (workers : ℕ) → n ≡ length l.degrees → e ≡ length l.edges → length m.owed ≡ workers * n → AreOver l workers m

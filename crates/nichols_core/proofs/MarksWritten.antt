@@ -22,7 +22,7 @@ stage_put xs b v inside c =
     (λ e. ap (stage_at (set xs b v)) e ∙ (get_or-set_same xs b v Published inside ∙ sym (put_here (stage_at xs) b v c e)))
     (λ n. get_or-set_other xs b c v Published n ∙ sym (put_else (stage_at xs) b v c n))
 
-mark_put : (xs : List Bool) (k : ℕ) (v : Bool) → k < length xs → (j : ℕ) → mark_at (set xs k v) j ≡ put (mark_at xs) k v j
+pub mark_put : (xs : List Bool) (k : ℕ) (v : Bool) → k < length xs → (j : ℕ) → mark_at (set xs k v) j ≡ put (mark_at xs) k v j
 mark_put xs k v inside j =
     dite (ℕ_discrete j k)
     (λ e. ap (mark_at (set xs k v)) e ∙ (get_or-set_same xs k v false inside ∙ sym (put_here (mark_at xs) k v j e)))

@@ -27,7 +27,7 @@ start_published : (t : Bool) → cond t Ready Published ≡ Published → t ≡ 
 start_published true e = absurd (cc)
 start_published false e = refl
 
-start_parked : (t : Bool) (l : ℕ) → cond t Ready Published ≡ Parked l → ⊥
+pub start_parked : (t : Bool) (l : ℕ) → cond t Ready Published ≡ Parked l → ⊥
 start_parked true l e = cc
 start_parked false l e = cc
 

@@ -6,6 +6,7 @@ use Rattle.std.specs.List.{count_by}
 use Rattle.std.specs.List.Sorted.{IsNonDecreasingBy}
 use mathlib.Core.Logic.{dite}
 use native.Mathlib.Decide.{ℕ_discrete}
+use Rattle.nichols_tensor.specs.declared.TheConstants.{LETTER_LIMIT}
 use Rattle.nichols_core.specs.declared.edge.Edge.{Edge}
 use Rattle.nichols_core.specs.Layout.{no_edge, edge_at, entry_place, IsRisingBy, IsBefore}
 
@@ -74,7 +75,7 @@ module _ (block : Edge → ℕ) where
       let letter_f = eqb-true f.letter a in_f.1 in
       omega arith
 
-  pub same_by : (e f : Edge) → e.letter ≤ 24 → f.letter ≤ 24 → place e ≡ place f → (by (block e) e.letter e ≡ true) × (by (block e) e.letter f ≡ true)
+  pub same_by : (e f : Edge) → e.letter ≤ LETTER_LIMIT → f.letter ≤ LETTER_LIMIT → place e ≡ place f → (by (block e) e.letter e ≡ true) × (by (block e) e.letter f ≡ true)
   same_by e f small less equal =
       let blocks : block f ≡ block e = omega arith in
       let letters : f.letter ≡ e.letter = omega arith in
@@ -83,7 +84,7 @@ module _ (block : Edge → ℕ) where
   pub one_each : (es : List Edge) → IsRisingBy place es → (b a : ℕ) → count_by (by b a) es ≤ 1
   one_each es up b a = count_one place (by b a) (by_same b a) es (rising place es up)
 
-  pub rises : (es : List Edge) → ((k : ℕ) → k < length es → (edge_at es k).letter ≤ 24) → ((b a : ℕ) → count_by (by b a) es ≤ 1) → IsNonDecreasingBy place es → IsRisingBy place es
+  pub rises : (es : List Edge) → ((k : ℕ) → k < length es → (edge_at es k).letter ≤ LETTER_LIMIT) → ((b a : ℕ) → count_by (by b a) es ≤ 1) → IsNonDecreasingBy place es → IsRisingBy place es
   rises es small one sorted k inside =
       let e : Edge = edge_at es k in
       let f : Edge = edge_at es (k + 1) in
@@ -98,5 +99,5 @@ module _ (block : Edge → ℕ) where
       (λ other. omega arith)
 
 -- what stands before by its number stands before by upper block and letter
-pub before : (e f : Edge) → e.letter ≤ 24 → f.letter ≤ 24 → entry_place e < entry_place f → IsBefore e f
+pub before : (e f : Edge) → e.letter ≤ LETTER_LIMIT → f.letter ≤ LETTER_LIMIT → entry_place e < entry_place f → IsBefore e f
 before e f small less h = dite (ℕ_discrete e.upper f.upper) (λ same. inr (same, omega arith)) (λ other. inl (omega arith))

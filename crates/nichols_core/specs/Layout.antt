@@ -1,5 +1,6 @@
 -- Layouts: the blocks with their degrees, and the edges between them.
 use Rattle.std.specs.Prelude.{◌≡◌, ℕ, ◌+◌, ◌*◌, ◌^◌, ◌<◌, ◌≤◌, ◌⊎◌, ◌==◌, ◌&&◌, Bool, List, length, slice_index, slice_index_or, count_by, All, position, Option}
+use Rattle.nichols_tensor.specs.declared.TheConstants.{LETTER_LIMIT}
 use Rattle.nichols_core.specs.declared.edge.Edge.{Edge}
 
 -- the degree of each block, and the edges
@@ -29,13 +30,13 @@ edge_into es b a = position (enters b a) es
 abbrev pub edge_out : List Edge → ℕ → ℕ → Option ℕ
 edge_out es b a = position (leaves b a) es
 
--- both ends are blocks, the upper one of the next degree, and the letter is from 1 to 24
+-- both ends are blocks, the upper one of the next degree, and the letter is from 1 to LETTER_LIMIT
 pub record IsPlaced (degrees : List ℕ) (e : Edge) : Type 0 where
   pub lower : e.lower < length degrees
   pub upper : e.upper < length degrees
   pub rises : slice_index degrees e.upper ≡ slice_index degrees e.lower + 1
   pub from_one : 1 ≤ e.letter
-  pub to_last : e.letter ≤ 24
+  pub to_last : e.letter ≤ LETTER_LIMIT
 
 -- the rules of a layout but for the order of its edges: each edge is placed, and of each letter at most
 -- one edge goes out of a block, and at most one into it

@@ -1,3 +1,4 @@
+-- what public contracts cite
 pub mod Layout
 pub mod Machine
 pub mod SixLaws

@@ -1,5 +1,7 @@
 -- A state as it is kept: lists over its layout, and the machine's state that they are.
-use Rattle.std.specs.Prelude.{◌≡◌, ℕ, ◌+◌, ◌*◌, ◌<◌, ◌≤◌, Bool, false, ◌&&◌, nat_lt, List, length, slice_index_or}
+use Rattle.std.specs.Prelude.{◌≡◌, ℕ, ◌+◌, ◌*◌, ◌<◌, Bool, false, ◌&&◌, nat_lt, List, length, slice_index_or}
+use Rattle.nichols_tensor.specs.declared.TheConstants.{LETTER_LIMIT}
+use Rattle.nichols_tensor.specs.Words.{IsLetterOf}
 use Rattle.nichols_core.specs.Layout.{LayoutValue, IsLayout}
 use Rattle.nichols_core.specs.Machine.{Machine, can, after}
 use Rattle.nichols_core.specs.SixLaws.{SixLaws}
@@ -71,15 +73,12 @@ pub record IsState (s : StateValue) : Type 0 where
 abbrev pub IsWithin : StateValue → ℕ → ℕ → Type 0
 IsWithin s w b = (w < s.workers) × (b < length s.layout.degrees)
 
-abbrev pub IsLetter : ℕ → Type 0
-IsLetter a = (1 ≤ a) × (a ≤ 24)
-
 -- worker, block and letter are in range
 abbrev pub IsInRange : StateValue → Event → Type 0
 IsInRange s (Take w b) = IsWithin s w b
-IsInRange s (Ask w b a) = IsWithin s w b × IsLetter a
-IsInRange s (Pick w b a) = IsWithin s w b × IsLetter a
-IsInRange s (Lay w b a) = IsWithin s w b × IsLetter a
+IsInRange s (Ask w b a) = IsWithin s w b × IsLetterOf LETTER_LIMIT a
+IsInRange s (Pick w b a) = IsWithin s w b × IsLetterOf LETTER_LIMIT a
+IsInRange s (Lay w b a) = IsWithin s w b × IsLetterOf LETTER_LIMIT a
 IsInRange s (Publish w b) = IsWithin s w b
 IsInRange s (Release w b) = IsWithin s w b
 

@@ -4,7 +4,7 @@ ghost use Rattle.std.specs.Prelude.{◌≡◌, ◌↔◌, IsTrue, IsPermutation}
 ghost use Rattle.std.specs.List.Sorted.{IsNonDecreasingBy};
 ghost use Rattle.nichols_core.specs.Layout.{IsRisingBy, exit_place, entry_place};
 
-/// An edge from a block to one of the next degree, with a letter from 1 to 24. Blocks count from 0.
+/// An edge from a block to one of the next degree, with a letter from 1 to `LETTER_LIMIT`. Blocks count from 0.
 #[derive(Clone, Copy, Debug, PartialEq, Eq, Drop)]
 pub struct Edge {
     pub lower: u32,

@@ -1,6 +1,6 @@
 //! The events of the shelf machine.
 
-/// What a worker does to a block. A letter is from 1 to 24.
+/// What a worker does to a block. A letter is from 1 to `LETTER_LIMIT`.
 #[derive(Clone, Copy, Debug, PartialEq, Eq, Drop)]
 pub enum Event {
     /// Holds the block, where it is ready.

@@ -4,10 +4,9 @@ ghost use Rattle.std.specs.Prelude.{◌≡◌, ◌+◌, ◌*◌, ◌^◌, ◌<�
 ghost use Rattle.nichols_core.specs.Layout.{IsPlaced, CanLayOut, IsLayout, edge_at, edge_into, edge_out, entry_place};
 
 use crate::edge::{Edge, enter_apart, entry_place, leave_apart, sort_by_entry, sort_by_exit};
+use nichols_tensor::LETTER_LIMIT;
 use std::alloc::{AllocError, Global};
 use std::marker::Model;
-
-const LAST_LETTER: u8 = 24;
 
 /// The degree of each block, and the edges, which rise by upper block and then by letter. Of each letter at
 /// most one edge goes out of a block, and at most one into it.
@@ -29,7 +28,7 @@ impl Model for Layout {
 
 impl Layout {
     /// The layout of these blocks and edges, which may be given in any order. `None` where an edge names a
-    /// block that isn't there, its letter is outside 1 to 24 or its upper block isn't of the next degree, and
+    /// block that isn't there, its letter is outside 1 to `LETTER_LIMIT` or its upper block isn't of the next degree, and
     /// where two edges share their lower block and letter, or their upper block and letter.
     pub fn new(degrees: Vec<u32>, mut edges: Vec<Edge>) -> Option<Layout>
         requires { vec_len degrees < 2 ^ 32 }
@@ -128,7 +127,7 @@ fn are_placed(degrees: &[u32], edges: &[Edge]) -> bool
     edges.iter().all(|edge| is_placed(degrees, edge))
 }
 
-/// Whether both ends are blocks, the upper one of the next degree, and the letter is one of the 24.
+/// Whether both ends are blocks, the upper one of the next degree, and the letter is from 1 to `LETTER_LIMIT`.
 fn is_placed(degrees: &[u32], edge: &Edge) -> bool
     ensures { IsTrue result ↔ IsPlaced degrees.now edge.now }
 {
@@ -138,5 +137,5 @@ fn is_placed(degrees: &[u32], edge: &Edge) -> bool
         return false;
     }
     let rises = degrees[lower] < degrees[upper] && degrees[upper] - degrees[lower] == 1;
-    rises && 1 <= edge.letter && edge.letter <= LAST_LETTER
+    rises && 1 <= edge.letter && edge.letter <= LETTER_LIMIT
 }

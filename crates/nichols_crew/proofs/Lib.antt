@@ -1,2 +1,2 @@
-pub mod Grouped
-pub mod Whole
+mod GroupLists
+mod WithinLimit

@@ -1,31 +1,9 @@
 use super::*;
 use nichols_block::{BlockValue, Levels};
-use nichols_braid::{Braid, Products, Scalars};
-use nichols_field::Field;
-use nichols_words::Word;
-use std::alloc::Global;
+use nichols_braid::Products;
+use nichols_testing::{one_letter, word};
 use std::slice;
 use std::test::Fail;
-
-/// One letter with the scalar 2 over seven elements.
-fn one_letter(alloc: Global) -> Result<Braid, Fail> {
-    let field = Field::new(7).map_err(|_| "no field")?;
-    let mut rack = Vec::new(alloc);
-    rack.push([1].as_slice().to_vec(alloc)?)?;
-    let braid = Braid::new(alloc, field, rack.as_slice(), &Scalars::Constant(2)).map_err(
-        |_| "no braid",
-    )?;
-    Ok(braid)
-}
-
-/// The word of one letter.
-fn letter(a: u8) -> Word {
-    let mut word = Word::empty();
-    if 1 <= a && a <= 24 {
-        let _put = word.push(a);
-    }
-    word
-}
 
 /// Degree 1 of one letter has one block, whose basis is that letter, with any number of workers.
 #[test]
@@ -42,7 +20,7 @@ fn degree_of_one_letter(rt: HostRuntime) -> Result<(), Fail> {
         for value in values.as_slice() {
             match value.get() {
                 Some(BlockValue::Rule(rule)) => {
-                    assert!(rt; rule.basis() == [letter(1)].as_slice());
+                    assert!(rt; rule.basis() == [word("1")].as_slice());
                     assert_eq!(rt; rule.relation_count(), 0);
                 }
                 _ => return Err("no rule".into()),

@@ -17,7 +17,7 @@ use std::thread;
 use std::thread::Threads;
 
 /// The value of the block of the degree after the last one with the product at a place.
-#[tactic(auto, using(crate::proofs::Whole::block_at))]
+#[tactic(auto, using(crate::proofs::WithinLimit::block_at))]
 fn value_of(alloc: Global, levels: &Levels, next: &Products, k: usize, rows_limit: u32) -> Shared
     requires room { levels.now.last < MOST_DEGREES }
     requires next { next.now ≡ products levels.now.braid (suc levels.now.last) }

@@ -6,7 +6,7 @@ use Rattle.std.proofs.lemmas.Bool.Decides.{nat_tests, Decides-eqb}
 use Rattle.nichols_field.specs.Field.{FieldValue, IsField, IsElement, plus, times}
 use Rattle.nichols_field.proofs.FieldLaws.{plus_assoc, plus_comm, plus_zero, times_is_element, times_one, times_assoc, times_comm}
 use Rattle.nichols_field.proofs.FieldAlgebra.{zero_plus, chosen_is_element}
-use Rattle.nichols_tensor.specs.Combination.{Term, Combination, value_at, same_letters, scaled, AllElements}
+use Rattle.nichols_tensor.specs.Combination.{Term, Combination, value_at, same_letters, scalar_multiple, AllElements}
 use Rattle.nichols_tensor.proofs.Values.{value_is_element, value_at-append}
 use Rattle.nichols_tensor.proofs.Building.{elements-push, value_at-push}
 use Rattle.nichols_braid.specs.Braid.{BraidValue, act, scalar}
@@ -18,7 +18,7 @@ fronted front f = map (λ t. record { word = front ++ t.word; coefficient = t.co
 
 -- what the places from `left` on contribute to the derivative of w with coefficient c
 abbrev pub contributed : BraidValue → ℕ → ℕ → List ℕ → List ℕ → Combination
-contributed braid a c front behind = scaled braid.field c (fronted front (derived_word braid a behind))
+contributed braid a c front behind = scalar_multiple braid.field c (fronted front (derived_word braid a behind))
 
 -- a has passed the letters of w behind the first `left` ones
 pub record IsPassing (braid : BraidValue) (a c : ℕ) (w : List ℕ) (before : Combination) (left : ℕ) (passed : List ℕ) (met : ℕ) (out : Combination) : Type 0 where
@@ -54,7 +54,7 @@ fronted_twice front x [] = refl
 fronted_twice front x (t ∷ ts) = ap₂ (λ (u : Term) (us : Combination). u ∷ us) (let e : front ++ x ∷ t.word ≡ (front ++ x ∷ []) ++ t.word = sym (append_assoc front (x ∷ []) t.word) in ap (λ (w : List ℕ). record { word = w; coefficient = t.coefficient }) e) (fronted_twice front x ts)
 
 contributed_here : (k : FieldValue) → IsField k → (c : ℕ) (front : List ℕ) (b : Bool) (t : Term) (v : List ℕ) →
-    value_at k (scaled k c (fronted front (if b then t ∷ [] else []))) v ≡ cond b (cond (same_letters (front ++ t.word) v) (times k c t.coefficient) 0) 0
+    value_at k (scalar_multiple k c (fronted front (if b then t ∷ [] else []))) v ≡ cond b (cond (same_letters (front ++ t.word) v) (times k c t.coefficient) 0) 0
 contributed_here k is c front true t v = plus_zero k (cond (same_letters (front ++ t.word) v) (times k c t.coefficient) 0) (chosen_is_element k (same_letters (front ++ t.word) v) (times k c t.coefficient) is (times_is_element k c t.coefficient is))
 contributed_here k is c front false t v = refl
 
@@ -68,10 +68,10 @@ contributed_more braid is a c u x r v =
     let t : Term = record { word = map (act braid a) r; coefficient = scalars_met braid a r } in
     let rest : Combination = map (λ s. record { word = x ∷ s.word; coefficient = s.coefficient }) (derived_word braid a r) in
     let first : Combination = if nat_eq a x then t ∷ [] else [] in
-    ap (λ f. value_at k (scaled k c f) v) (map-append (λ (s : Term). record { word = u ++ s.word; coefficient = s.coefficient }) first rest)
+    ap (λ f. value_at k (scalar_multiple k c f) v) (map-append (λ (s : Term). record { word = u ++ s.word; coefficient = s.coefficient }) first rest)
     ∙ ap (λ f. value_at k f v) (map-append (λ (s : Term). record { word = s.word; coefficient = times k c s.coefficient }) (fronted u first) (fronted u rest))
-    ∙ value_at-append k is (scaled k c (fronted u first)) (scaled k c (fronted u rest)) v
-    ∙ ap₂ (plus k) (contributed_here k is c u (nat_eq a x) t v) (ap (λ f. value_at k (scaled k c f) v) (fronted_twice u x (derived_word braid a r)))
+    ∙ value_at-append k is (scalar_multiple k c (fronted u first)) (scalar_multiple k c (fronted u rest)) v
+    ∙ ap₂ (plus k) (contributed_here k is c u (nat_eq a x) t v) (ap (λ f. value_at k (scalar_multiple k c f) v) (fronted_twice u x (derived_word braid a r)))
 
 passed_on : (braid : BraidValue) (a : ℕ) (w : List ℕ) (n : ℕ) (passed : List ℕ) → suc n < length w → passed ≡ take (suc n) w ++ map (act braid a) (drop (suc n + 1) w) →
     set passed n (act braid a (get_or w (suc n) 0)) ≡ take n w ++ map (act braid a) (drop (n + 1) w)
@@ -188,7 +188,7 @@ passing-here braid is a c w before (suc m) n passed met out some e h x at same_l
 -- ---- the end
 
 pub passed_all : (braid : BraidValue) (a c : ℕ) (w : List ℕ) (before : Combination) (left : ℕ) (passed : List ℕ) (met : ℕ) (out : Combination) → left ≡ 0 → IsPassing braid a c w before left passed met out → (v : List ℕ) →
-    value_at braid.field out v ≡ plus braid.field (value_at braid.field before v) (value_at braid.field (scaled braid.field c (derived_word braid a w)) v)
+    value_at braid.field out v ≡ plus braid.field (value_at braid.field before v) (value_at braid.field (scalar_multiple braid.field c (derived_word braid a w)) v)
 passed_all braid a c w before left passed met out e h v =
     h.value v ∙ ap (λ i. plus braid.field (value_at braid.field before v) (value_at braid.field (contributed braid a c (take i w) (drop i w)) v)) e
-    ∙ ap (λ f. plus braid.field (value_at braid.field before v) (value_at braid.field (scaled braid.field c f) v)) (map-id (derived_word braid a w))
+    ∙ ap (λ f. plus braid.field (value_at braid.field before v) (value_at braid.field (scalar_multiple braid.field c f) v)) (map-id (derived_word braid a w))

@@ -5,7 +5,7 @@ ghost use Rattle.nichols_tensor.specs.Combination.{AllElements, HasSameValues};
 ghost use Rattle.nichols_tensor.specs.WordOrder.{IsOrdered};
 ghost use Rattle.nichols_tensor.specs.Words.{HasDegree, IsOver};
 ghost use Rattle.nichols_braid.specs.Braid.{IsLetter};
-ghost use Rattle.nichols_braid.specs.Derivation.{derived};
+ghost use Rattle.nichols_braid.specs.Derivation.{skew_derivative};
 
 use crate::passing::put_derivative;
 use nichols_braid::Braid;
@@ -20,7 +20,7 @@ pub fn derive(alloc: Global, braid: &Braid, a: u8, comb: &Comb) -> Result<Comb, 
     requires letter { IsLetter braid.now a }
     requires letters { IsOver braid.now.letters comb.now }
     requires elements { AllElements braid.now.field comb.now }
-    ensures value { IfOk result (λ r. HasSameValues braid.now.field r (derived braid.now a comb.now)) }
+    ensures value { IfOk result (λ r. HasSameValues braid.now.field r (skew_derivative braid.now a comb.now)) }
     ensures shape { IfOk result IsOrdered }
     ensures elements { IfOk result (AllElements braid.now.field) }
     ensures letters { IfOk result (IsOver braid.now.letters) }

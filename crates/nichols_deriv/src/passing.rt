@@ -3,7 +3,7 @@
 ghost use Rattle.std.specs.Prelude.{◌≡◌, List, ℕ};
 ghost use Rattle.std.specs.Result.{OnOk};
 ghost use Rattle.nichols_field.specs.Field.{IsElement, plus};
-ghost use Rattle.nichols_tensor.specs.Combination.{AllElements, scaled, value_at};
+ghost use Rattle.nichols_tensor.specs.Combination.{AllElements, scalar_multiple, value_at};
 ghost use Rattle.nichols_tensor.specs.Words.{IsWordOver};
 ghost use Rattle.nichols_braid.specs.Braid.{IsLetter};
 ghost use Rattle.nichols_braid.specs.Derivation.{derived_word};
@@ -24,7 +24,7 @@ pub(crate) fn put_derivative(
     requires word { IsWordOver braid.now.letters term.now.word }
     requires coefficient { IsElement braid.now.field term.now.coefficient }
     requires elements { AllElements braid.now.field out.old.items }
-    ensures value { OnOk result ((w : List ℕ) → value_at braid.now.field out.new.items w ≡ plus braid.now.field (value_at braid.now.field out.old.items w) (value_at braid.now.field (scaled braid.now.field term.now.coefficient (derived_word braid.now a term.now.word)) w)) }
+    ensures value { OnOk result ((w : List ℕ) → value_at braid.now.field out.new.items w ≡ plus braid.now.field (value_at braid.now.field out.old.items w) (value_at braid.now.field (scalar_multiple braid.now.field term.now.coefficient (derived_word braid.now a term.now.word)) w)) }
     ensures elements { OnOk result (AllElements braid.now.field out.new.items) }
 {
     let field = braid.field();

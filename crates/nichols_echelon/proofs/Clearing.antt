@@ -6,10 +6,10 @@ use Rattle.nichols_field.specs.Field.{FieldValue, IsField, IsElement, plus, time
 use Rattle.nichols_field.proofs.FieldLaws.{plus_comm, plus_zero, times_assoc, times_plus, times_zero, zero_is_element, plus_is_element}
 use Rattle.nichols_field.proofs.FieldAlgebra.{zero_times, one_times, plus_times, swap_middle, difference_of_same}
 use Rattle.nichols_echelon.specs.Cells.{Cell, entry, AllElements}
-use Rattle.nichols_echelon.specs.Combination.{row_at, combined}
+use Rattle.nichols_echelon.specs.Combination.{row_at, combined_entry}
 use Rattle.nichols_echelon.specs.Echelon.{pivot_at, IsPivot}
 use Rattle.nichols_echelon.proofs.Entries.{entry_is_element}
-use Rattle.nichols_echelon.proofs.Combinations.{combined-nil, combined-cons, combined_is_element}
+use Rattle.nichols_echelon.proofs.Combinations.{combined_entry-nil, combined_entry-cons, combined_is_element}
 use Rattle.nichols_echelon.proofs.Kept.{nothing_behind, inverse_here}
 
 -- the sum of u and a multiple of v
@@ -81,22 +81,22 @@ module _ (k : FieldValue) (is : IsField k) (kept : List (List Cell)) (factors : 
 
   -- what makes 0 of each row makes 0 of their combination
   pub cleared-combined : (n : ℕ) (rows : List (List Cell)) (cells : List Cell) →
-      AllByRecursion (λ c. (x : ℕ) → cleared k kept factors pivots n (entry k (row_at rows c.column)) x ≡ 0) cells → (x : ℕ) → cleared k kept factors pivots n (combined k rows cells) x ≡ 0
-  cleared-combined n rows [] none x = cleared-zero n (combined k rows []) (combined-nil k rows) x
+      AllByRecursion (λ c. (x : ℕ) → cleared k kept factors pivots n (entry k (row_at rows c.column)) x ≡ 0) cells → (x : ℕ) → cleared k kept factors pivots n (combined_entry k rows cells) x ≡ 0
+  cleared-combined n rows [] none x = cleared-zero n (combined_entry k rows []) (combined_entry-nil k rows) x
   cleared-combined n rows (c ∷ cells) none x =
-      cleared-same n (combined k rows (c ∷ cells)) (sum_with k (combined k rows cells) c.coefficient (entry k (row_at rows c.column)))
-      (λ y. combined-cons k rows c cells y ∙ plus_comm k (times k c.coefficient (entry k (row_at rows c.column) y)) (combined k rows cells y)) x
-      ∙ cleared-sum n (combined k rows cells) c.coefficient (entry k (row_at rows c.column)) x
+      cleared-same n (combined_entry k rows (c ∷ cells)) (sum_with k (combined_entry k rows cells) c.coefficient (entry k (row_at rows c.column)))
+      (λ y. combined_entry-cons k rows c cells y ∙ plus_comm k (times k c.coefficient (entry k (row_at rows c.column) y)) (combined_entry k rows cells y)) x
+      ∙ cleared-sum n (combined_entry k rows cells) c.coefficient (entry k (row_at rows c.column)) x
       ∙ ap₂ (λ a b. plus k a (times k c.coefficient b)) (cleared-combined n rows cells none.1 x) (none.0 x)
       ∙ ap (plus k 0) (times_zero k c.coefficient is) ∙ plus_zero k 0 (zero_is_element k is)
 
   -- what makes 0 of a combination leaves of a sum with it what it leaves of the rest
   pub cleared-made : (n : ℕ) (row cells : ℕ → ℕ) (rows : List (List Cell)) (steps : List Cell) → ((x : ℕ) → IsElement k (cleared k kept factors pivots n cells x)) →
-      ((x : ℕ) → row x ≡ plus k (cells x) (combined k rows steps x)) →
+      ((x : ℕ) → row x ≡ plus k (cells x) (combined_entry k rows steps x)) →
       AllByRecursion (λ c. (x : ℕ) → cleared k kept factors pivots n (entry k (row_at rows c.column)) x ≡ 0) steps → (x : ℕ) → cleared k kept factors pivots n row x ≡ cleared k kept factors pivots n cells x
   cleared-made n row cells rows steps element value none x =
-      cleared-same n row (sum_with k cells 1 (combined k rows steps)) (λ y. value y ∙ ap (plus k (cells y)) (sym (one_times k (combined k rows steps y) (combined_is_element k is rows steps y)))) x
-      ∙ cleared-sum n cells 1 (combined k rows steps) x
+      cleared-same n row (sum_with k cells 1 (combined_entry k rows steps)) (λ y. value y ∙ ap (plus k (cells y)) (sym (one_times k (combined_entry k rows steps y) (combined_is_element k is rows steps y)))) x
+      ∙ cleared-sum n cells 1 (combined_entry k rows steps) x
       ∙ ap (λ m. plus k (cleared k kept factors pivots n cells x) (times k 1 m)) (cleared-combined n rows steps none x)
       ∙ ap (plus k (cleared k kept factors pivots n cells x)) (one_times k 0 (zero_is_element k is))
       ∙ plus_zero k (cleared k kept factors pivots n cells x) (element x)

@@ -4,16 +4,16 @@ use Rattle.std.specs.Int.{bit_at, bit_not, trailing_zeros}
 use mir.Val.{bits}
 use Rattle.std.proofs.lemmas.Nat.Bits.{bit_at-trailing_zeros, bit_at_clear_same, bit_at_clear_other, bit_at-zero}
 use Rattle.std.proofs.lemmas.Nat.{and_le_l}
-use Rattle.std.proofs.lemmas.List.{length-set, get_or_past}
+use Rattle.std.proofs.lemmas.List.{get_or_past}
 use Rattle.std.proofs.lemmas.Bool.{cases_eq, cases_lt, eqb-true, eqb-false}
-use Rattle.nichols_field.specs.Field.{FieldValue, IsField, IsElement, plus, settled}
+use Rattle.nichols_field.specs.Field.{FieldValue, IsField, IsElement, plus, element_of_sum}
 use Rattle.nichols_field.proofs.FieldLaws.{plus_zero, plus_is_element}
 use Rattle.nichols_field.proofs.FieldAlgebra.{zero_plus}
 use Rattle.nichols_field.proofs.Pending.{settled_zero, settled_is_element}
 use Rattle.nichols_echelon.specs.Cells.{Cell, AllBelow, AllElements, IsRow, cell_value, entry}
 use Rattle.nichols_echelon.proofs.Entries.{entry-nil, entry-push, entry_is_element, cell_here, cell_elsewhere}
-use Rattle.nichols_echelon.proofs.Shapes.{row-push}
-use Rattle.nichols_echelon.proofs.Shapes.{all_weaker, all_push, row_nil}
+use Rattle.nichols_tensor.proofs.Over.{all-weaker}
+use Rattle.nichols_echelon.proofs.Shapes.{all_push, row-push}
 use Rattle.nichols_echelon.specs.Sums.{sum_at, with_entry, IsZero, IsMarked, IsSumRow, IsDraining, KeepsSums, OnlyClears}
 
 -- on to a later place, where nothing stands between
@@ -27,18 +27,18 @@ draining_skip k values cells end next le none s = record {
       ];
   row = s.row;
   elements = s.elements;
-  below = all_weaker (λ (c : Cell). c.column < end) (λ (c : Cell). c.column < next) (λ c h. omega (arith, le)) cells s.below;
+  below = all-weaker (λ (c : Cell). c.column < end) (λ (c : Cell). c.column < next) (λ c h. omega (arith, le)) cells s.below;
 }
 
 -- a row with one entry more, behind the others
 pushed_state : (k : FieldValue) (values : List ℕ) (cells : List Cell) (p c : ℕ) (b : Bool) → (c == 0) ≡ b → IsElement k c → IsDraining k values cells p →
     IsRow (cond b cells (cells ++ record { column = p; coefficient = c } ∷ [])) × AllElements k (cond b cells (cells ++ record { column = p; coefficient = c } ∷ [])) × AllBelow (p + 1) (cond b cells (cells ++ record { column = p; coefficient = c } ∷ []))
-pushed_state k values cells p c true e h s = (s.row, s.elements, all_weaker (λ (c : Cell). c.column < p) (λ (c : Cell). c.column < p + 1) (λ c h. omega arith) cells s.below)
+pushed_state k values cells p c true e h s = (s.row, s.elements, all-weaker (λ (c : Cell). c.column < p) (λ (c : Cell). c.column < p + 1) (λ c h. omega arith) cells s.below)
 pushed_state k values cells p c false e h s = (
   row-push cells (record { column = p; coefficient = c }) s.row s.below (eqb-false c 0 e),
   all_push (λ (d : Cell). IsElement k d.coefficient) cells (record { column = p; coefficient = c }) s.elements h,
   all_push (λ (d : Cell). d.column < p + 1) cells (record { column = p; coefficient = c })
-      (all_weaker (λ (c : Cell). c.column < p) (λ (c : Cell). c.column < p + 1) (λ c h. omega arith) cells s.below) (omega arith),
+      (all-weaker (λ (c : Cell). c.column < p) (λ (c : Cell). c.column < p + 1) (λ c h. omega arith) cells s.below) (omega arith),
 )
 
 pushed_entry : (k : FieldValue) → IsField k → (cells : List Cell) (p c q : ℕ) (b : Bool) → (c == 0) ≡ b →
@@ -51,7 +51,7 @@ pushed_entry k is cells p c q true e =
     nothing (inr there) = cell_elsewhere (record { column = p; coefficient = c }) q there
 pushed_entry k is cells p c q false e = entry-push k is cells (record { column = p; coefficient = c }) q
 
-pub draining_take : (k : FieldValue) → IsField k → (values : List ℕ) (cells : List Cell) (p c : ℕ) → p < length values → c ≡ settled k (get_or values p 0) →
+pub draining_take : (k : FieldValue) → IsField k → (values : List ℕ) (cells : List Cell) (p c : ℕ) → p < length values → c ≡ element_of_sum k (get_or values p 0) →
     IsDraining k values cells p → IsDraining k (set values p 0) (with_entry cells p c) (p + 1)
 unfolding with_entry
 draining_take k is values cells p c inside e s =
@@ -68,7 +68,7 @@ draining_take k is values cells p c inside e s =
       below = t.2;
     }
 
-pub sums_take : (k : FieldValue) → IsField k → (values : List ℕ) (cells : List Cell) (p c : ℕ) → p < length values → c ≡ settled k (get_or values p 0) →
+pub sums_take : (k : FieldValue) → IsField k → (values : List ℕ) (cells : List Cell) (p c : ℕ) → p < length values → c ≡ element_of_sum k (get_or values p 0) →
     KeepsSums k values cells (set values p 0) (with_entry cells p c)
 unfolding with_entry
 sums_take k is values cells p c inside e q =
@@ -78,12 +78,12 @@ sums_take k is values cells p c inside e q =
     ∙ elim (cases_eq p q) [
       | inl here ↦
           ap₂ (λ v m. plus k (plus k n v) m) (cell_here (record { column = p; coefficient = c }) q here)
-          (ap (λ m. sum_at k (set values p 0) m) (sym here) ∙ ap (settled k) (get_or-set_same values p 0 0 inside) ∙ settled_zero k is)
+          (ap (λ m. sum_at k (set values p 0) m) (sym here) ∙ ap (element_of_sum k) (get_or-set_same values p 0 0 inside) ∙ settled_zero k is)
           ∙ plus_zero k (plus k n c) (plus_is_element k n c is)
           ∙ ap (plus k n) (e ∙ ap (sum_at k values) here)
       | inr there ↦
           ap₂ (λ v m. plus k (plus k n v) m) (cell_elsewhere (record { column = p; coefficient = c }) q there)
-          (ap (settled k) (get_or-set_other values p q 0 0 (λ h. there (sym h))))
+          (ap (element_of_sum k) (get_or-set_other values p q 0 0 (λ h. there (sym h))))
           ∙ ap (λ m. plus k m (sum_at k values q)) (plus_zero k n (entry_is_element k is cells q))
     ]
 
@@ -111,19 +111,6 @@ pub record InWord (k : FieldValue) (initial : List ℕ) (before : List Cell) (wo
   pub sums : KeepsSums k initial before values cells
   pub rest : OnlyClears initial values
 
-pub word_start : (k : FieldValue) (values : List ℕ) (cells : List Cell) (word left : ℕ) → IsDraining k values cells (64 * word) →
-    ((place : ℕ) → 64 * word ≤ place → place < 64 * word + 64 → get_or values place 0 ≢ 0 → bit_at left (place - 64 * word) ≡ 1) → InWord k values cells word values cells left
-word_start k values cells word left s m = record {
-  end = 64 * word;
-  first = omega arith;
-  last = omega arith;
-  state = s;
-  later = λ i h b. omega arith;
-  marked = m;
-  sums = λ place. refl;
-  rest = λ place h. refl;
-}
-
 pub zero_from : (n : ℕ) → (n ≢ 0 → ◌≡◌ {A = ℕ} 0 1) → n ≡ 0
 zero_from n h = elim (cases_eq n 0) [ inl e ↦ e | inr d ↦ (let no : ⊥ = omega (arith, h d) in absurd no) ]
 
@@ -133,7 +120,7 @@ word_end k initial before word values cells w =
     (λ place h l. zero_from (get_or values place 0) (λ d. sym (bit_at-zero (place - 64 * word)) ∙ w.marked place h l d)) w.state
 
 pub word_more : (k : FieldValue) → IsField k → (initial : List ℕ) (before : List Cell) (word : ℕ) (values : List ℕ) (cells : List Cell) (left c : ℕ) → 0 < left → left < 2 ^ 64 →
-    64 * word + 64 ≤ length values → c ≡ settled k (get_or values (64 * word + trailing_zeros w64 left) 0) → InWord k initial before word values cells left →
+    64 * word + 64 ≤ length values → c ≡ element_of_sum k (get_or values (64 * word + trailing_zeros w64 left) 0) → InWord k initial before word values cells left →
     InWord k initial before word (set values (64 * word + trailing_zeros w64 left) 0) (with_entry cells (64 * word + trailing_zeros w64 left) c) (without_bit left (trailing_zeros w64 left))
 word_more k is initial before word values cells left c some fits inside e w =
     let t : ℕ = trailing_zeros w64 left in
@@ -185,48 +172,11 @@ pub record Drained (k : FieldValue) (initial values marks : List ℕ) (cells : L
   pub marked : IsMarked values marks
   pub width : length values ≡ length initial
 
-pub drained_start : (k : FieldValue) (values marks : List ℕ) (cells : List Cell) → cells ≡ [] → IsMarked values marks → Drained k values values marks cells 0
-drained_start k values marks cells none m = subst (λ (cs : List Cell). Drained k values values marks cs 0) (sym none) start
-  where
-    start : Drained k values values marks [] 0
-    start = record {
-      state = record { clear = λ place h. absurd (omega (arith, h)); row = row_nil; elements = tt; below = tt };
-      sums = λ place. refl;
-      marked = m;
-      width = refl;
-    }
-
 pub word_marked : (values marks : List ℕ) (word place : ℕ) → IsMarked values marks → 64 * word ≤ place → place < 64 * word + 64 → get_or values place 0 ≢ 0 → bit_at (get_or marks word 0) (place - 64 * word) ≡ 1
 word_marked values marks word place m from to nonzero =
     let quotient : word ≡ place / 64 = omega (arith, from, to) in
     let rest : place - 64 * word ≡ place % 64 = omega (arith, from, to) in
     ap₂ (λ w i. bit_at (get_or marks w 0) i) quotient rest ∙ m.marked place nonzero
-
-pub marked_clears : (values new marks : List ℕ) → length new ≡ length values → OnlyClears values new → IsMarked values marks → IsMarked new marks
-marked_clears values new marks width clears m = record {
-  wide = width ∙ m.wide;
-  short = omega (arith, width, m.short);
-  marked = λ place nonzero. m.marked place (λ z. nonzero (clears place nonzero ∙ z));
-}
-
-pub drained_more : (k : FieldValue) (initial values marks : List ℕ) (cells : List Cell) (word : ℕ) (new : List ℕ) (more : List Cell) → length new ≡ length values → OnlyClears values new →
-    IsDraining k new more (64 * word + 64) → KeepsSums k values cells new more → Drained k initial values marks cells word → Drained k initial new (set marks word 0) more (word + 1)
-drained_more k initial values marks cells word new more width clears state sums d =
-    let step : 64 * word + 64 ≡ 64 * (word + 1) = omega arith in
-    record {
-      state = subst (IsDraining k new more) step state;
-      sums = λ place. sums place ∙ d.sums place;
-      marked = record {
-        wide = width ∙ d.marked.wide ∙ sym (ap (λ l. 64 * l) (length-set marks word 0));
-        short = omega (arith, width, d.marked.short);
-        marked = λ place nonzero.
-            let other : place / 64 ≢ word =
-            λ same. nonzero (state.clear place (omega (arith, same))) in
-            ap (λ w. bit_at w (place % 64)) (get_or-set_other marks word (place / 64) 0 0 other)
-            ∙ d.marked.marked place (λ z. nonzero (clears place nonzero ∙ z));
-      };
-      width = width ∙ d.width;
-    }
 
 drained_raw : (k : FieldValue) (initial values marks : List ℕ) (cells : List Cell) (word : ℕ) → length marks ≤ word → Drained k initial values marks cells word → (place : ℕ) → get_or values place 0 ≡ 0
 drained_raw k initial values marks cells word whole d place =
@@ -236,7 +186,7 @@ drained_raw k initial values marks cells word whole d place =
     ]
 
 pub drained_zero : (k : FieldValue) → IsField k → (initial values marks : List ℕ) (cells : List Cell) (word : ℕ) → length marks ≤ word → Drained k initial values marks cells word → IsZero k values
-drained_zero k is initial values marks cells word whole d place = ap (settled k) (drained_raw k initial values marks cells word whole d place) ∙ settled_zero k is
+drained_zero k is initial values marks cells word whole d place = ap (element_of_sum k) (drained_raw k initial values marks cells word whole d place) ∙ settled_zero k is
 
 pub drained_row : (k : FieldValue) → IsField k → (initial values marks : List ℕ) (cells : List Cell) (word : ℕ) → length marks ≡ word → Drained k initial values marks cells word → IsSumRow k initial cells
 drained_row k is initial values marks cells word whole d =

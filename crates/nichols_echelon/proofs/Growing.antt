@@ -4,14 +4,15 @@ use Rattle.std.proofs.lemmas.Bool.{cases_eq}
 use Rattle.std.proofs.lemmas.List.{get_or_append_left, get_or_push, length_push, length-set}
 use Rattle.nichols_field.specs.Field.{FieldValue, plus}
 use Rattle.nichols_echelon.specs.Cells.{Cell, entry, AllElements, AllBelow}
-use Rattle.nichols_echelon.specs.Combination.{row_at, combined, IsDependent}
+use Rattle.nichols_echelon.specs.Combination.{row_at, combined_entry, IsDependent}
 use Rattle.nichols_echelon.specs.Split.{place_at, AllIndependent, IsPlace}
 use Rattle.nichols_echelon.specs.Echelon.{kept_row, kept_rows, pivot_at, IsClaimed, IsPivot, AreSteps, IsEchelon}
 use Rattle.nichols_echelon.specs.NextRow.{Follows}
 use Rattle.nichols_echelon.specs.declared.rows.Place.{Place}
 use Rattle.nichols_echelon.specs.declared.rows.Place.TheVariants.{Independent, Depends}
-use Rattle.nichols_echelon.proofs.Shapes.{all_weaker, all_both}
+use Rattle.nichols_echelon.proofs.Shapes.{all_both}
 use Rattle.nichols_echelon.proofs.Kept.{none_some, one_more, kept_before, kept_last, combined_kept}
+use Rattle.nichols_tensor.proofs.Over.{all-weaker}
 
 -- a table of columns that knows what the old one knew, and of one more row where it ends
 pub record KnowsMore (k : FieldValue) (rows left : List (List Cell)) (l : List Cell) (factor : ℕ) (old new : List (Option ℕ)) : Type 0 where
@@ -22,7 +23,7 @@ pub record KnowsMore (k : FieldValue) (rows left : List (List Cell)) (l : List C
 -- what one more row adds
 pub record IsAdded (k : FieldValue) (rows left : List (List Cell)) (pivots : List (Option ℕ)) (l s : List Cell) : Type 0 where
   pub room : length left < length rows
-  pub value : (x : ℕ) → entry k (row_at rows (length left)) x ≡ plus k (entry k (kept_row (row_at rows (length left)) l) x) (combined k (kept_rows rows left) s x)
+  pub value : (x : ℕ) → entry k (row_at rows (length left)) x ≡ plus k (entry k (kept_row (row_at rows (length left)) l) x) (combined_entry k (kept_rows rows left) s x)
   pub steps : AreSteps k pivots (length left) s
   pub elements : AllElements k (kept_row (row_at rows (length left)) l)
   pub below : AllBelow (length pivots) (kept_row (row_at rows (length left)) l)
@@ -55,7 +56,7 @@ module _ (k : FieldValue) (rows left steps : List (List Cell)) (factors : List �
   steps_stay i cells h = record {
     elements = h.elements;
     below = h.below;
-    claimed = all_weaker (λ c. IsClaimed pivots c.column) (λ c. IsClaimed next c.column) (λ c q. (q.0, more.stays q.0 c.column q.1)) cells h.claimed;
+    claimed = all-weaker (λ c. IsClaimed pivots c.column) (λ c. IsClaimed next c.column) (λ c q. (q.0, more.stays q.0 c.column q.1)) cells h.claimed;
   }
 
   -- the cells of the last row, in the new list
@@ -63,20 +64,20 @@ module _ (k : FieldValue) (rows left steps : List (List Cell)) (factors : List �
   last_cells = sym (kept_last rows left l)
 
   made_at : (i : ℕ) → i < length left + 1 → (x : ℕ) → entry k (row_at rows i) x ≡
-      plus k (entry k (row_at (kept_rows rows (left ++ l ∷ [])) i) x) (combined k (kept_rows rows (left ++ l ∷ [])) (row_at (steps ++ s ∷ []) i) x)
+      plus k (entry k (row_at (kept_rows rows (left ++ l ∷ [])) i) x) (combined_entry k (kept_rows rows (left ++ l ∷ [])) (row_at (steps ++ s ∷ []) i) x)
   made_at =
       one_more
-      (λ i. (x : ℕ) → entry k (row_at rows i) x ≡ plus k (entry k (row_at (kept_rows rows (left ++ l ∷ [])) i) x) (combined k (kept_rows rows (left ++ l ∷ [])) (row_at (steps ++ s ∷ []) i) x)) (length left)
+      (λ i. (x : ℕ) → entry k (row_at rows i) x ≡ plus k (entry k (row_at (kept_rows rows (left ++ l ∷ [])) i) x) (combined_entry k (kept_rows rows (left ++ l ∷ [])) (row_at (steps ++ s ∷ []) i) x)) (length left)
       (λ i h x.
       let seen : i < length steps = omega (arith, h, e.steps_count) in
-      let below : AllBelow (length left) (row_at steps i) = all_weaker (λ c. c.column < i) (λ c. c.column < length left) (λ c b. omega (arith, b, h)) (row_at steps i) (e.are_steps i seen).below in
+      let below : AllBelow (length left) (row_at steps i) = all-weaker (λ c. c.column < i) (λ c. c.column < length left) (λ c b. omega (arith, b, h)) (row_at steps i) (e.are_steps i seen).below in
       e.made i seen x
       ∙ sym (ap₂ (λ (r : List Cell) (m : ℕ). plus k (entry k r x) m) (kept_before rows left l i h)
-      (ap (λ (cs : List Cell). combined k (kept_rows rows (left ++ l ∷ [])) cs x) (get_or_append_left steps (s ∷ []) [] i seen) ∙ combined_kept k rows left l (row_at steps i) below x)))
+      (ap (λ (cs : List Cell). combined_entry k (kept_rows rows (left ++ l ∷ [])) cs x) (get_or_append_left steps (s ∷ []) [] i seen) ∙ combined_kept k rows left l (row_at steps i) below x)))
       (λ x.
       added.value x
       ∙ sym (ap₂ (λ (r : List Cell) (m : ℕ). plus k (entry k r x) m) (kept_last rows left l)
-      (ap (λ (cs : List Cell). combined k (kept_rows rows (left ++ l ∷ [])) cs x) (get_or_push steps s [] (length left) e.steps_count) ∙ combined_kept k rows left l s added.steps.below x)))
+      (ap (λ (cs : List Cell). combined_entry k (kept_rows rows (left ++ l ∷ [])) cs x) (get_or_push steps s [] (length left) e.steps_count) ∙ combined_kept k rows left l s added.steps.below x)))
 
   steps_at : (i : ℕ) → i < length left + 1 → AreSteps k next i (row_at (steps ++ s ∷ []) i)
   steps_at =
@@ -144,7 +145,7 @@ module _ (k : FieldValue) (rows left steps : List (List Cell)) (factors : List �
     place_stays place i before Independent h = h
     place_stays place i before (Depends cells) h = record {
       combination = h.combination;
-      independent = independent_before place cells (all_weaker (λ c. c.column < i) (λ c. c.column < length left) (λ c b. omega (arith, b, before)) cells h.combination.earlier) h.independent;
+      independent = independent_before place cells (all-weaker (λ c. c.column < i) (λ c. c.column < length left) (λ c b. omega (arith, b, before)) cells h.combination.earlier) h.independent;
       shape = h.shape;
     }
 

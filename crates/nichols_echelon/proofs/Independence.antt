@@ -4,16 +4,17 @@ use Rattle.std.proofs.lemmas.Bool.{cases_lt}
 use Rattle.std.proofs.lemmas.List.{get_or_past}
 use Rattle.nichols_field.specs.Field.{FieldValue, IsField, plus}
 use Rattle.nichols_echelon.specs.Cells.{Cell, entry}
-use Rattle.nichols_echelon.specs.Combination.{row_at, combined, IsDependent}
+use Rattle.nichols_echelon.specs.Combination.{row_at, combined_entry, IsDependent}
 use Rattle.nichols_echelon.specs.Split.{place_at, IsPlace}
 use Rattle.nichols_echelon.specs.Echelon.{kept_rows, pivot_at, IsClaimed, AllClaimed, IsPivot, IsEchelon}
 use Rattle.nichols_echelon.specs.NextRow.{Follows}
 use Rattle.nichols_echelon.specs.declared.rows.Place.{Place}
 use Rattle.nichols_echelon.specs.declared.rows.Place.TheVariants.{Independent, Depends}
-use Rattle.nichols_echelon.proofs.Shapes.{all_weaker, all_both}
+use Rattle.nichols_echelon.proofs.Shapes.{all_both}
 use Rattle.nichols_echelon.proofs.Entries.{entry_is_element}
 use Rattle.nichols_echelon.proofs.Kept.{none_some}
 use Rattle.nichols_echelon.proofs.Clearing.{cleared, cleared-same, cleared-kept, cleared-combined, cleared-made, cleared-free, cleared_is_element}
+use Rattle.nichols_tensor.proofs.Over.{all-weaker}
 
 -- a column where a kept row ends is in the table
 pub claimed_inside : (pivots : List (Option ℕ)) (column i : ℕ) → pivot_at pivots column ≡ Some i → column < length pivots
@@ -34,12 +35,12 @@ module _ (k : FieldValue) (is : IsField k) (rows left steps : List (List Cell)) 
       cleared-kept k is (kept_rows rows left) factors pivots (length pivots) i claimed.0 (claimed_inside pivots claimed.0 i claimed.1) claimed.1 known.1 (e.elements i known.0) x
 
   -- of a row, what is left of it stays
-  left_stays : (row cells parts : List Cell) → AllClaimed pivots parts → ((x : ℕ) → entry k row x ≡ plus k (entry k cells x) (combined k (kept_rows rows left) parts x)) → (x : ℕ) →
+  left_stays : (row cells parts : List Cell) → AllClaimed pivots parts → ((x : ℕ) → entry k row x ≡ plus k (entry k cells x) (combined_entry k (kept_rows rows left) parts x)) → (x : ℕ) →
       clear (entry k row) x ≡ clear (entry k cells) x
   left_stays row cells parts claimed value =
       cleared-made k is (kept_rows rows left) factors pivots (length pivots) (entry k row) (entry k cells) (kept_rows rows left) parts
       (cleared_is_element k is (kept_rows rows left) factors pivots (length pivots) (entry k cells) (entry_is_element k is cells)) value
-      (all_weaker (λ c. IsClaimed pivots c.column) (λ c. (x : ℕ) → clear (entry k (row_at (kept_rows rows left) c.column)) x ≡ 0) (λ c h. kept_clear c.column h) parts claimed)
+      (all-weaker (λ c. IsClaimed pivots c.column) (λ c. (x : ℕ) → clear (entry k (row_at (kept_rows rows left) c.column)) x ≡ 0) (λ c h. kept_clear c.column h) parts claimed)
 
   -- the rows that the kept rows come from are cleared
   row_clear : (i : ℕ) → IsClaimed pivots i → (x : ℕ) → clear (entry k (row_at rows i)) x ≡ 0
@@ -53,18 +54,18 @@ module _ (k : FieldValue) (is : IsField k) (rows left steps : List (List Cell)) 
     place_clear : (i : ℕ) → i < length left → (place : Place) → place_at places i ≡ place → IsPlace k rows places i place → (x : ℕ) → clear (entry k (row_at rows i)) x ≡ 0
     place_clear i seen Independent same h x = row_clear i (f.claimed i (omega (arith, seen, count)) same) x
     place_clear i seen (Depends cells) same h x =
-        cleared-same k is (kept_rows rows left) factors pivots (length pivots) (entry k (row_at rows i)) (combined k rows cells) h.combination.value x
+        cleared-same k is (kept_rows rows left) factors pivots (length pivots) (entry k (row_at rows i)) (combined_entry k rows cells) h.combination.value x
         ∙ cleared-combined k is (kept_rows rows left) factors pivots (length pivots) rows cells
         (all_both (λ c. c.column < i) (λ c. place_at places c.column ≡ Independent) (λ c. (y : ℕ) → clear (entry k (row_at rows c.column)) y ≡ 0)
         (λ c b free. row_clear c.column (f.claimed c.column (omega (arith, b, seen, count)) free)) cells h.combination.earlier h.independent) x
 
     pub independent : (cells parts : List Cell) (column : ℕ) → pivot_at pivots column ≡ None → AllClaimed pivots parts → entry k cells column ≢ 0 → ((x : ℕ) → column < x → entry k cells x ≡ 0) →
-        ((x : ℕ) → entry k (row_at rows (length left)) x ≡ plus k (entry k cells x) (combined k (kept_rows rows left) parts x)) → IsDependent k rows (length left) → ⊥
+        ((x : ℕ) → entry k (row_at rows (length left)) x ≡ plus k (entry k cells x) (combined_entry k (kept_rows rows left) parts x)) → IsDependent k rows (length left) → ⊥
     independent cells parts column free claimed nonzero behind value dependent =
         nonzero (
         sym (left_stays (row_at rows (length left)) cells parts claimed value column
         ∙ cleared-free k is (kept_rows rows left) factors pivots (λ c i at. (e.known c i at).1) (length pivots) column free (entry k cells) (entry_is_element k is cells) behind)
-        ∙ cleared-same k is (kept_rows rows left) factors pivots (length pivots) (entry k (row_at rows (length left))) (combined k rows dependent.0) dependent.1.value column
+        ∙ cleared-same k is (kept_rows rows left) factors pivots (length pivots) (entry k (row_at rows (length left))) (combined_entry k rows dependent.0) dependent.1.value column
         ∙ cleared-combined k is (kept_rows rows left) factors pivots (length pivots) rows dependent.0
-        (all_weaker (λ c. c.column < length left) (λ c. (x : ℕ) → clear (entry k (row_at rows c.column)) x ≡ 0)
+        (all-weaker (λ c. c.column < length left) (λ c. (x : ℕ) → clear (entry k (row_at rows c.column)) x ≡ 0)
         (λ c b. place_clear c.column b (place_at places c.column) refl (f.each c.column (omega (arith, b, count)))) dependent.0 dependent.1.earlier) column)

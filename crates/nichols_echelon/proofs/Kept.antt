@@ -6,7 +6,7 @@ use Rattle.nichols_field.specs.Field.{FieldValue, IsField, IsElement, plus, time
 use Rattle.nichols_field.proofs.FieldLaws.{plus_zero, times_one, times_negative_one, zero_is_element, negative_is_element}
 use Rattle.nichols_field.proofs.FieldAlgebra.{zero_plus, swap_factors}
 use Rattle.nichols_echelon.specs.Cells.{Cell, cell_value, entry, IsRow, AllElements, AllBelow}
-use Rattle.nichols_echelon.specs.Combination.{row_at, combined}
+use Rattle.nichols_echelon.specs.Combination.{row_at, combined_entry}
 use Rattle.nichols_echelon.specs.Echelon.{kept_row, kept_rows, pivot_at, IsPivot}
 use Rattle.nichols_echelon.proofs.Shapes.{all_back, row_last}
 use Rattle.nichols_echelon.proofs.Entries.{entry-push, entry_is_element, entry_beyond, cell_here, cell_elsewhere}
@@ -46,7 +46,7 @@ kept_last rows left l = kept_at rows (left ++ l ∷ []) (length left) ∙ ap (ke
 
 -- combinations of the rows kept before stay
 pub combined_kept : (k : FieldValue) (rows left : List (List Cell)) (l cells : List Cell) → AllBelow (length left) cells → (column : ℕ) →
-    combined k (kept_rows rows (left ++ l ∷ [])) cells column ≡ combined k (kept_rows rows left) cells column
+    combined_entry k (kept_rows rows (left ++ l ∷ [])) cells column ≡ combined_entry k (kept_rows rows left) cells column
 combined_kept k rows left l cells below column = combined_alike k (kept_rows rows (left ++ l ∷ [])) (kept_rows rows left) (length left) (kept_before rows left l) cells below column
 
 -- minus the inverse of a coefficient

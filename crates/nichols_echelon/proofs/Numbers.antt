@@ -8,14 +8,14 @@ use Rattle.std.proofs.lemmas.Bool.{cases_eq, cases_lt, cases_order}
 use Rattle.nichols_field.specs.Field.{FieldValue, IsField, IsElement, plus, times}
 use Rattle.nichols_field.proofs.FieldLaws.{plus_zero, times_zero, zero_is_element}
 use Rattle.nichols_echelon.specs.Cells.{Cell, cell_value, entry, IsRow, IsBelowFirst, AllElements, AllBelow, columns_of}
-use Rattle.nichols_echelon.specs.Combination.{row_at, combined, IsCombination, AllRowsElements, AllRowsBelow, AreRows}
+use Rattle.nichols_echelon.specs.Combination.{row_at, combined_entry, IsCombination, AllRowsElements, AllRowsBelow, AreRows}
 use Rattle.nichols_echelon.specs.Split.{place_at, IsPlace, IsSplit}
 use Rattle.nichols_echelon.specs.Numbering.{all_columns, AllListed, IsNumbered, AreNumbered}
 use Rattle.nichols_echelon.specs.declared.rows.Place.{Place}
 use Rattle.nichols_echelon.specs.declared.rows.Place.TheVariants.{Independent, Depends}
 use Rattle.nichols_echelon.proofs.Shapes.{row_nil, row_cons, row_front, columns_of-append, all_rows, row_of_all}
 use Rattle.nichols_echelon.proofs.Entries.{entry-nil, entry-cons, entry_beyond, cell_here, cell_elsewhere}
-use Rattle.nichols_echelon.proofs.Combinations.{combined-nil, combined-cons}
+use Rattle.nichols_echelon.proofs.Combinations.{combined_entry-nil, combined_entry-cons}
 
 -- in a list that rises strictly an earlier number is less
 pub rises : (columns : List ℕ) → IsStrictlyIncreasing columns → (i j : ℕ) → i < j → j < length columns → get_or columns i 0 < get_or columns j 0
@@ -143,27 +143,27 @@ module _ (k : FieldValue) (is : IsField k) (columns : List ℕ) (rising : IsStri
     row_absent : (j x : ℕ) → ((r : ℕ) → r < length columns → get_or columns r 0 ≢ x) → entry k (row_at rows j) x ≡ 0
     row_absent j x none = entry_absent (row_at rows j) (row_at numbered j) x (all.each j) none
 
-    combined_numbered : (cells : List Cell) (r : ℕ) → r < length columns → combined k numbered cells r ≡ combined k rows cells (get_or columns r 0)
-    combined_numbered [] r inside = combined-nil k numbered r ∙ sym (combined-nil k rows (get_or columns r 0))
+    combined_numbered : (cells : List Cell) (r : ℕ) → r < length columns → combined_entry k numbered cells r ≡ combined_entry k rows cells (get_or columns r 0)
+    combined_numbered [] r inside = combined_entry-nil k numbered r ∙ sym (combined_entry-nil k rows (get_or columns r 0))
     combined_numbered (c ∷ cells) r inside =
-        combined-cons k numbered c cells r
+        combined_entry-cons k numbered c cells r
         ∙ ap₂ (λ a b. plus k (times k c.coefficient a) b) (row_numbered c.column r inside) (combined_numbered cells r inside)
-        ∙ sym (combined-cons k rows c cells (get_or columns r 0))
+        ∙ sym (combined_entry-cons k rows c cells (get_or columns r 0))
 
-    combined_absent : (cells : List Cell) (x : ℕ) → ((r : ℕ) → r < length columns → get_or columns r 0 ≢ x) → combined k rows cells x ≡ 0
-    combined_absent [] x none = combined-nil k rows x
+    combined_absent : (cells : List Cell) (x : ℕ) → ((r : ℕ) → r < length columns → get_or columns r 0 ≢ x) → combined_entry k rows cells x ≡ 0
+    combined_absent [] x none = combined_entry-nil k rows x
     combined_absent (c ∷ cells) x none =
-        combined-cons k rows c cells x
+        combined_entry-cons k rows c cells x
         ∙ ap₂ (λ a b. plus k (times k c.coefficient a) b) (row_absent c.column x none) (combined_absent cells x none)
         ∙ ap (λ m. plus k m 0) (times_zero k c.coefficient is) ∙ plus_zero k 0 (zero_is_element k is)
 
     beyond : (j r : ℕ) → length columns ≤ r → entry k (row_at numbered j) r ≡ 0
     beyond j r above = entry_beyond k is (length columns) (row_at numbered j) r (row_below columns rows numbered all j) above
 
-    combined_beyond : (cells : List Cell) (r : ℕ) → length columns ≤ r → combined k numbered cells r ≡ 0
-    combined_beyond [] r above = combined-nil k numbered r
+    combined_beyond : (cells : List Cell) (r : ℕ) → length columns ≤ r → combined_entry k numbered cells r ≡ 0
+    combined_beyond [] r above = combined_entry-nil k numbered r
     combined_beyond (c ∷ cells) r above =
-        combined-cons k numbered c cells r ∙ ap₂ (λ a b. plus k (times k c.coefficient a) b) (beyond c.column r above) (combined_beyond cells r above)
+        combined_entry-cons k numbered c cells r ∙ ap₂ (λ a b. plus k (times k c.coefficient a) b) (beyond c.column r above) (combined_beyond cells r above)
         ∙ ap (λ m. plus k m 0) (times_zero k c.coefficient is) ∙ plus_zero k 0 (zero_is_element k is)
 
     to_rows : (j : ℕ) (cells : List Cell) → IsCombination k numbered j cells → IsCombination k rows j cells
@@ -173,7 +173,7 @@ module _ (k : FieldValue) (is : IsField k) (columns : List ℕ) (rising : IsStri
       value = λ x.
           elim (find_column columns x (length columns)) [
             | inl found ↦
-                subst (λ y. entry k (row_at rows j) y ≡ combined k rows cells y) found.2
+                subst (λ y. entry k (row_at rows j) y ≡ combined_entry k rows cells y) found.2
                 (sym (row_numbered j found.0 found.1) ∙ c.value found.0 ∙ combined_numbered cells found.0 found.1)
             | inr none ↦ row_absent j x none ∙ sym (combined_absent cells x none)
           ];

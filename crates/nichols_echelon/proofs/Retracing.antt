@@ -6,14 +6,15 @@ use Rattle.nichols_field.specs.Field.{FieldValue, IsField, IsElement, plus, time
 use Rattle.nichols_field.proofs.FieldLaws.{plus_assoc, plus_zero, times_plus, times_zero, zero_is_element, plus_is_element}
 use Rattle.nichols_field.proofs.FieldAlgebra.{zero_plus, zero_times, one_times, plus_times, swap_middle, negative_plus}
 use Rattle.nichols_echelon.specs.Cells.{Cell, cell_value, entry, IsRow, IsBelowFirst, AllElements, AllBelow, columns_of}
-use Rattle.nichols_echelon.specs.Combination.{row_at, combined}
+use Rattle.nichols_echelon.specs.Combination.{row_at, combined_entry}
 use Rattle.nichols_echelon.specs.Echelon.{IsClaimed, AllClaimed, AreSteps, AreMade}
 use Rattle.nichols_echelon.specs.Sums.{sum_at, IsZero, IsZeroFrom, IsTaken, IsSameSums}
 use Rattle.nichols_echelon.specs.Sweep.{IsTraced}
 use Rattle.nichols_echelon.proofs.Summing.{sum_is_element}
-use Rattle.nichols_echelon.proofs.Shapes.{all_append, all_push, row_nil, row_cons}
+use Rattle.nichols_echelon.proofs.Shapes.{all_push, row_nil, row_cons}
 use Rattle.nichols_echelon.proofs.Entries.{entry-nil, entry-cons, entry-push, entry-append, entry-scaled, entry_is_element, entry_beyond, cell_here, cell_elsewhere, scaled}
-use Rattle.nichols_echelon.proofs.Combinations.{combined-nil, combined-cons, combined-push, combined-append, combined-scaled, combined_is_element, combined_from_entries, all_below-scaled}
+use Rattle.nichols_echelon.proofs.Combinations.{combined_entry-nil, combined_entry-cons, combined_entry-push, combined_entry-append, combined_entry-scaled, combined_is_element, combined_from_entries, all_below-scaled}
+use Rattle.nichols_tensor.proofs.Over.{all-append}
 
 -- F + -x S and x (C + S) + O are F + x C and O
 pub traced_sum : (k : FieldValue) → IsField k → (f s x c o : ℕ) → IsElement k x → plus k (plus k f (times k (negative k x) s)) (plus k (times k x (plus k c s)) o) ≡ plus k (plus k f (times k x c)) o
@@ -73,7 +74,7 @@ entry_claimed k is pivots (c ∷ cells) j h nonzero =
 
 -- out is what came out, the last first
 pub record Retracing (k : FieldValue) (pivots : List (Option ℕ)) (all : List (List Cell)) (steps : List Cell) (values : List ℕ) (end : ℕ) (out : List Cell) : Type 0 where
-  pub value : (rows kept : List (List Cell)) → AreMade k rows kept all → (x : ℕ) → plus k (combined k kept (table k values end) x) (combined k rows out x) ≡ combined k kept steps x
+  pub value : (rows kept : List (List Cell)) → AreMade k rows kept all → (x : ℕ) → plus k (combined_entry k kept (table k values end) x) (combined_entry k rows out x) ≡ combined_entry k kept steps x
   pub zero : IsZeroFrom k values end
   pub full : (j : ℕ) → sum_at k values j ≢ 0 → IsClaimed pivots j
   pub inside : end ≤ length all
@@ -96,7 +97,7 @@ retrace_start k is pivots all steps old values none wide are loaded =
           ap₂ (plus k)
           (combined_from_entries k is kept (length all) (table k values (length all)) steps (all_below-table k values (length all) (length all) (omega arith)) are.below
           (λ j. table_entry k is values (length all) j zero ∙ at j) x)
-          (combined-nil k rows x) ∙ plus_zero k (combined k kept steps x) (combined_is_element k is kept steps x);
+          (combined_entry-nil k rows x) ∙ plus_zero k (combined_entry k kept steps x) (combined_is_element k is kept steps x);
       zero = zero;
       full = λ j nonzero. entry_claimed k is pivots steps j are.claimed (λ e. nonzero (at j ∙ e));
       inside = omega arith;
@@ -119,12 +120,12 @@ module _ (k : FieldValue) (is : IsField k) (pivots : List (Option ℕ)) (all : L
       ]
 
   -- the sums are those that are left, and the one that was taken out
-  apart : (kept : List (List Cell)) (x : ℕ) → combined k kept (table k values end) x ≡ plus k (combined k kept (table k taken cell.column) x) (times k cell.coefficient (entry k (row_at kept cell.column) x))
+  apart : (kept : List (List Cell)) (x : ℕ) → combined_entry k kept (table k values end) x ≡ plus k (combined_entry k kept (table k taken cell.column) x) (times k cell.coefficient (entry k (row_at kept cell.column) x))
   apart kept x =
       combined_from_entries k is kept end (table k values end) (table k taken cell.column ++ cell ∷ []) (all_below-table k values end end (omega arith))
       (all_push (λ d. d.column < end) (table k taken cell.column) cell (all_below-table k taken cell.column end (omega (arith, before_end))) before_end)
       (λ j. table_entry k is values end j r.zero ∙ sym (entry-push k is (table k taken cell.column) cell j ∙ ap (λ m. plus k m (cell_value cell j)) (table_entry k is taken cell.column j t.gone) ∙ joined j)) x
-      ∙ combined-push k is kept (table k taken cell.column) cell x
+      ∙ combined_entry-push k is kept (table k taken cell.column) cell x
     where
       joined : (j : ℕ) → plus k (sum_at k taken j) (cell_value cell j) ≡ sum_at k values j
       joined j =
@@ -161,27 +162,27 @@ module _ (k : FieldValue) (is : IsField k) (pivots : List (Option ℕ)) (all : L
           | inr some ↦ entry_claimed k is pivots (row_at all cell.column) j own.claimed some
         ]
 
-    next_combined : (kept : List (List Cell)) (x : ℕ) → combined k kept (table k next cell.column) x ≡
-        plus k (combined k kept (table k taken cell.column) x) (times k (negative k cell.coefficient) (combined k kept (row_at all cell.column) x))
+    next_combined : (kept : List (List Cell)) (x : ℕ) → combined_entry k kept (table k next cell.column) x ≡
+        plus k (combined_entry k kept (table k taken cell.column) x) (times k (negative k cell.coefficient) (combined_entry k kept (row_at all cell.column) x))
     next_combined kept x =
         let back : ℕ = negative k cell.coefficient in
         let low : List Cell = table k taken cell.column in
         let parts : List Cell = row_at all cell.column in
         combined_from_entries k is kept cell.column (table k next cell.column) (low ++ scaled k back parts) (all_below-table k next cell.column cell.column (omega arith))
-        (all_append (λ d. d.column < cell.column) low (scaled k back parts) (all_below-table k taken cell.column cell.column (omega arith)) (all_below-scaled k back cell.column parts own.below))
+        (all-append (λ d. d.column < cell.column) low (scaled k back parts) (all_below-table k taken cell.column cell.column (omega arith)) (all_below-scaled k back cell.column parts own.below))
         (λ j. table_entry k is next cell.column j next_zero ∙ sum j
         ∙ sym (entry-append k is low (scaled k back parts) j ∙ ap₂ (plus k) (table_entry k is taken cell.column j t.gone) (entry-scaled k is back parts j))) x
-        ∙ combined-append k is kept low (scaled k back parts) x
-        ∙ ap (plus k (combined k kept low x)) (combined-scaled k is kept back parts x)
+        ∙ combined_entry-append k is kept low (scaled k back parts) x
+        ∙ ap (plus k (combined_entry k kept low x)) (combined_entry-scaled k is kept back parts x)
 
     pub retrace_more : Retracing k pivots all steps next cell.column (cell ∷ out)
     retrace_more = record {
       value = λ rows kept made x.
-          let f : ℕ = combined k kept (table k taken cell.column) x in
-          let s : ℕ = combined k kept (row_at all cell.column) x in
+          let f : ℕ = combined_entry k kept (table k taken cell.column) x in
+          let s : ℕ = combined_entry k kept (row_at all cell.column) x in
           let e : ℕ = entry k (row_at kept cell.column) x in
-          let o : ℕ = combined k rows out x in
-          ap₂ (plus k) (next_combined kept x) (combined-cons k rows cell out x ∙ ap (λ m. plus k (times k cell.coefficient m) o) (made cell.column within x))
+          let o : ℕ = combined_entry k rows out x in
+          ap₂ (plus k) (next_combined kept x) (combined_entry-cons k rows cell out x ∙ ap (λ m. plus k (times k cell.coefficient m) o) (made cell.column within x))
           ∙ traced_sum k is f s cell.coefficient e o t.element
           ∙ ap (λ m. plus k m o) (sym (apart kept x))
           ∙ r.value rows kept made x;
@@ -200,9 +201,9 @@ pub retraced_all : (k : FieldValue) → IsField k → (pivots : List (Option ℕ
     Retracing k pivots all steps values end out → IsTraced k pivots all steps out
 retraced_all k is pivots all steps values end out none r = record {
   value = λ rows kept made x.
-      sym (ap (λ m. plus k m (combined k rows out x))
-      (combined_from_entries k is kept end (table k values end) [] (all_below-table k values end end (omega arith)) tt (λ j. table_entry k is values end j r.zero ∙ none j ∙ sym (entry-nil k j)) x ∙ combined-nil k kept x)
-      ∙ zero_plus k (combined k rows out x) (combined_is_element k is rows out x)) ∙ r.value rows kept made x;
+      sym (ap (λ m. plus k m (combined_entry k rows out x))
+      (combined_from_entries k is kept end (table k values end) [] (all_below-table k values end end (omega arith)) tt (λ j. table_entry k is values end j r.zero ∙ none j ∙ sym (entry-nil k j)) x ∙ combined_entry-nil k kept x)
+      ∙ zero_plus k (combined_entry k rows out x) (combined_is_element k is rows out x)) ∙ r.value rows kept made x;
   shape = r.shape;
   elements = r.elements;
   below = r.below;

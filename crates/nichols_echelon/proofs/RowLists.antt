@@ -2,14 +2,14 @@
 use Rattle.std.proofs.Common.{◌≡◌, ℕ, zero, suc, ◌-◌, ◌<◌, ◌≤◌, List, [], ◌∷◌, ◌++◌, length, get_or, take, drop, refl, ap, ap₂, ◌∙◌, arith, length-drop, take_all}
 use Rattle.std.proofs.lemmas.List.{take-append-le, drop-append-le, drop_all}
 use Rattle.nichols_echelon.specs.Cells.{Cell}
-use Rattle.nichols_echelon.specs.Rows.{RowsValue, rows_of, rows_from, end_from, between, IsStepped}
+use Rattle.nichols_echelon.specs.Rows.{RowsValue, rows_of, rows_from, end_from, cells_between, IsStepped}
 
 pub length-rows_from : (s : ℕ) (ends : List ℕ) (cells : List Cell) → length (rows_from s ends cells) ≡ length ends
 unfolding rows_from
 length-rows_from s [] cells = refl
 length-rows_from s (e ∷ ends) cells = ap suc (length-rows_from e ends cells)
 
-pub row_at : (s : ℕ) (ends : List ℕ) (cells : List Cell) (k : ℕ) → k < length ends → get_or (rows_from s ends cells) k [] ≡ between (get_or (s ∷ ends) k 0) (get_or ends k 0) cells
+pub row_at : (s : ℕ) (ends : List ℕ) (cells : List Cell) (k : ℕ) → k < length ends → get_or (rows_from s ends cells) k [] ≡ cells_between (get_or (s ∷ ends) k 0) (get_or ends k 0) cells
 unfolding rows_from
 row_at s [] cells k h = absurd (omega arith)
 row_at s (e ∷ ends) cells zero h = refl
@@ -39,7 +39,7 @@ pub stepped_push : (s : ℕ) (ends : List ℕ) (n : ℕ) → IsStepped s ends n 
 stepped_push s [] n h = (h, omega arith)
 stepped_push s (e ∷ ends) n h = (h.0, stepped_push e ends n h.1)
 
-between_front : (a b : ℕ) (cells more : List Cell) → a ≤ b → b ≤ length cells → between a b (cells ++ more) ≡ between a b cells
+between_front : (a b : ℕ) (cells more : List Cell) → a ≤ b → b ≤ length cells → cells_between a b (cells ++ more) ≡ cells_between a b cells
 between_front a b cells more l h =
     ap (take (b - a)) (drop-append-le a cells more (omega arith)) ∙ take-append-le (b - a) (drop a cells) more (omega (arith, length-drop a cells))
 
@@ -58,7 +58,7 @@ begun_of_longer s ends cells more h = drop-append-le (end_from s ends) cells mor
 pub rows_of_end : (s : ℕ) (ends : List ℕ) (cells : List Cell) → rows_from s (ends ++ length cells ∷ []) cells ≡ rows_from s ends cells ++ drop (end_from s ends) cells ∷ []
 unfolding rows_from end_from
 rows_of_end s [] cells = ap (λ x. x ∷ []) (take_all (length cells - s) (drop s cells) (omega (arith, length-drop s cells)))
-rows_of_end s (e ∷ ends) cells = ap (λ x. between s e cells ∷ x) (rows_of_end e ends cells)
+rows_of_end s (e ∷ ends) cells = ap (λ x. cells_between s e cells ∷ x) (rows_of_end e ends cells)
 
 pub begun_of_end : (s : ℕ) (ends : List ℕ) (cells : List Cell) → drop (end_from s (ends ++ length cells ∷ [])) cells ≡ []
 unfolding end_from

@@ -6,8 +6,8 @@ use Rattle.nichols_field.specs.Field.{FieldValue, IsField, IsElement, plus, time
 use Rattle.nichols_field.proofs.FieldLaws.{plus_zero, zero_is_element}
 use Rattle.nichols_field.proofs.FieldAlgebra.{zero_plus, one_times}
 use Rattle.nichols_echelon.specs.Cells.{Cell, cell_value, entry, IsRow, AllElements, AllBelow}
-use Rattle.nichols_echelon.specs.Combination.{row_at, combined, AllRowsElements, AllRowsBelow, AreRows, IsDependent}
-use Rattle.nichols_echelon.specs.Split.{place_at, IsPlace, IsSplit}
+use Rattle.nichols_echelon.specs.Combination.{row_at, combined_entry, AllRowsElements, AllRowsBelow, AreRows, IsDependent}
+use Rattle.nichols_echelon.specs.Split.{place_at, IsPlace}
 use Rattle.nichols_echelon.specs.Rows.{RowsValue}
 use Rattle.nichols_echelon.specs.Sums.{sum_at, IsZero}
 use Rattle.nichols_echelon.specs.Echelon.{kept_row, kept_rows, pivot_at, IsClaimed, IsEchelon}
@@ -16,12 +16,13 @@ use Rattle.nichols_echelon.specs.NextRow.{Holds, IsGrown, IsKept, IsSpent, IsNex
 use Rattle.nichols_echelon.specs.declared.echelon.Echelon.{Echelon}
 use Rattle.nichols_echelon.specs.declared.rows.Place.{Place}
 use Rattle.nichols_echelon.specs.declared.rows.Place.TheVariants.{Independent, Depends}
-use Rattle.nichols_echelon.proofs.Shapes.{all_back, all_weaker, row_last, row_of_all}
+use Rattle.nichols_echelon.proofs.Shapes.{all_back, row_last, row_of_all}
 use Rattle.nichols_echelon.proofs.Entries.{entry-nil, entry-push, entry_is_element, entry_beyond, cell_here, cell_elsewhere}
-use Rattle.nichols_echelon.proofs.Combinations.{combined-nil, combined_is_element}
+use Rattle.nichols_echelon.proofs.Combinations.{combined_entry-nil, combined_is_element}
 use Rattle.nichols_echelon.proofs.Kept.{none_some, nothing_behind, nonzero_here}
 use Rattle.nichols_echelon.proofs.Independence.{independent}
 use Rattle.nichols_echelon.proofs.Growing.{IsAdded, KnowsMore, knows_same, knows_new, echelon_more, independent_before, follows_kept, follows_spent}
+use Rattle.nichols_tensor.proofs.Over.{all-weaker}
 
 -- a list that isn't empty ends in something
 pub ends_in : (c : Cell) (cells : List Cell) → (front : List Cell) × (last : Cell) × (c ∷ cells ≡ front ++ last ∷ [])
@@ -91,7 +92,7 @@ module _ (k : FieldValue) (is : IsField k) (rows : List (List Cell)) (old new : 
     are_steps = record { elements = tt; below = tt; claimed = tt };
     value = λ x.
         let v : ℕ = entry k (row_at rows (length old.left.rows)) x in
-        sym (ap (plus k v) (combined-nil k (kept_rows rows old.left.rows) x) ∙ plus_zero k v (entry_is_element k is (row_at rows (length old.left.rows)) x));
+        sym (ap (plus k v) (combined_entry-nil k (kept_rows rows old.left.rows) x) ∙ plus_zero k v (entry_is_element k is (row_at rows (length old.left.rows)) x));
   }
 
   module _ (zero loaded values : List ℕ) (none : IsZero k zero) (load : (x : ℕ) → sum_at k loaded x ≡ plus k (sum_at k zero x) (times k 1 (entry k row x))) (steps : List Cell) where
@@ -131,7 +132,7 @@ module _ (k : FieldValue) (is : IsField k) (rows : List (List Cell)) (old new : 
           elements = elements;
           below = subst (λ n. AllBelow n (c ∷ cs)) width below;
           are_steps = swept.are_steps;
-          value = λ x. sym (loaded_row x) ∙ swept.value x ∙ ap (λ m. plus k m (combined k (kept_rows rows old.left.rows) steps x)) (sym (entries x));
+          value = λ x. sym (loaded_row x) ∙ swept.value x ∙ ap (λ m. plus k m (combined_entry k (kept_rows rows old.left.rows) steps x)) (sym (entries x));
         }
 
     -- a row of which nothing is left
@@ -142,7 +143,7 @@ module _ (k : FieldValue) (is : IsField k) (rows : List (List Cell)) (old new : 
       steps = steps;
       grown = record { new_left = l; new_steps = s; new_factors = f; new_pivots = p };
       value = λ x.
-          let m : ℕ = combined k (kept_rows rows old.left.rows) steps x in
+          let m : ℕ = combined_entry k (kept_rows rows old.left.rows) steps x in
           sym (loaded_row x) ∙ swept.value x ∙ ap (λ v. plus k v m) (swept.rest x) ∙ zero_plus k m (combined_is_element k is (kept_rows rows old.left.rows) steps x);
       traced = traced;
     }
@@ -185,7 +186,7 @@ module _ (k : FieldValue) (is : IsField k) (rows : List (List Cell)) (old new : 
         room = room;
         value = λ x.
             let v : ℕ = entry k (row_at rows n) x in
-            sym (ap (plus k v) (combined-nil k (kept_rows rows old.left.rows) x) ∙ plus_zero k v (entry_is_element k is (row_at rows n) x));
+            sym (ap (plus k v) (combined_entry-nil k (kept_rows rows old.left.rows) x) ∙ plus_zero k v (entry_is_element k is (row_at rows n) x));
         steps = record { elements = tt; below = tt; claimed = tt };
         elements = row_of_all (AllElements k) rows tt elements n;
         below = row_of_all (AllBelow (length old.pivots.items)) rows tt below n;
@@ -200,7 +201,7 @@ module _ (k : FieldValue) (is : IsField k) (rows : List (List Cell)) (old new : 
         };
         independent =
             independent_before k rows old.left.rows old.steps.rows old.factors.items old.pivots.items old.pivots.items [] [] 0 holds added more places count follows (Depends cells) cells earlier
-            (all_weaker (λ c. IsClaimed old.pivots.items c.column) (λ c. place_at places c.column ≡ Independent) (λ c q. follows.independent c.column q) cells h.traced.claimed);
+            (all-weaker (λ c. IsClaimed old.pivots.items c.column) (λ c. place_at places c.column ≡ Independent) (λ c q. follows.independent c.column q) cells h.traced.claimed);
         shape = h.traced.shape;
       } in (
         carried k rows new (old.left.rows ++ [] ∷ []) (old.steps.rows ++ [] ∷ []) (old.factors.items ++ 0 ∷ []) old.pivots.items
@@ -253,10 +254,6 @@ holds_first k rows e l s f none = (
   },
 )
 
--- after the last
-pub split_whole : (k : FieldValue) (rows : List (List Cell)) (pivots : List (Option ℕ)) (places : List Place) → length places ≡ length rows → Follows k rows pivots places → IsSplit k rows places
-split_whole k rows pivots places count f = record { count = count; each = λ i h. f.each i (omega (arith, h, count)) }
-
 pub no_pivots : (pivots : List (Option ℕ)) (width : ℕ) → pivots ≡ replicate width None → (column : ℕ) → pivot_at pivots column ≡ None
 no_pivots pivots width e column =
     ap (λ (ps : List (Option ℕ)). pivot_at ps column) e
@@ -266,4 +263,4 @@ no_pivots pivots width e column =
     ]
 
 pub rows_wider : (n m : ℕ) (rows : List (List Cell)) → n ≤ m → AllRowsBelow n rows → AllRowsBelow m rows
-rows_wider n m rows less h = all_weaker (AllBelow n) (AllBelow m) (λ row b. all_weaker (λ c. c.column < n) (λ c. c.column < m) (λ c q. omega (arith, q, less)) row b) rows h
+rows_wider n m rows less h = all-weaker (AllBelow n) (AllBelow m) (λ row b. all-weaker (λ c. c.column < n) (λ c. c.column < m) (λ c q. omega (arith, q, less)) row b) rows h

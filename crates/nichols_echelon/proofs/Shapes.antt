@@ -3,6 +3,7 @@ use Rattle.std.proofs.Common.{◌≡◌, ◌≢◌, ◌<◌, ◌+◌, ℕ, List,
 use Rattle.std.specs.List.{AllByRecursion}
 use Rattle.nichols_echelon.specs.Combination.{row_at}
 use Rattle.nichols_echelon.specs.Cells.{Cell, IsRow, IsRising, IsBelowFirst, AllBelow, columns_of}
+use Rattle.nichols_tensor.proofs.Over.{all-append, all-weaker}
 
 pub row_front : (c : Cell) (cells : List Cell) → IsRow (c ∷ cells) → (c.coefficient ≢ 0) × IsBelowFirst c.column (columns_of cells) × IsRow cells
 row_front c cells h = (h.nonzero.0, h.rising.0, record { rising = h.rising.1; nonzero = h.nonzero.1 })
@@ -13,11 +14,6 @@ row_cons c cells n b h = record { rising = (b, h.rising); nonzero = (n, h.nonzer
 pub row_nil : IsRow []
 row_nil = record { rising = tt; nonzero = tt }
 
--- what holds of each element, at the ends of a list
-pub all_append : {X : Type 0} (P : X → Type 0) (xs ys : List X) → AllByRecursion P xs → AllByRecursion P ys → AllByRecursion P (xs ++ ys)
-all_append P [] ys h k = k
-all_append P (x ∷ xs) ys h k = (h.0, all_append P xs ys h.1 k)
-
 pub all_front : {X : Type 0} (P : X → Type 0) (xs ys : List X) → AllByRecursion P (xs ++ ys) → AllByRecursion P xs
 all_front P [] ys h = tt
 all_front P (x ∷ xs) ys h = (h.0, all_front P xs ys h.1)
@@ -26,16 +22,12 @@ pub all_back : {X : Type 0} (P : X → Type 0) (xs ys : List X) → AllByRecursi
 all_back P [] ys h = h
 all_back P (x ∷ xs) ys h = all_back P xs ys h.1
 
-pub all_weaker : {X : Type 0} (P Q : X → Type 0) → ((x : X) → P x → Q x) → (xs : List X) → AllByRecursion P xs → AllByRecursion Q xs
-all_weaker P Q f [] h = tt
-all_weaker P Q f (x ∷ xs) h = (f x h.0, all_weaker P Q f xs h.1)
-
 pub all_both : {X : Type 0} (P Q R : X → Type 0) → ((x : X) → P x → Q x → R x) → (xs : List X) → AllByRecursion P xs → AllByRecursion Q xs → AllByRecursion R xs
 all_both P Q R f [] h k = tt
 all_both P Q R f (x ∷ xs) h k = (f x h.0 k.0, all_both P Q R f xs h.1 k.1)
 
 pub all_push : {X : Type 0} (P : X → Type 0) (xs : List X) (y : X) → AllByRecursion P xs → P y → AllByRecursion P (xs ++ y ∷ [])
-all_push P xs y h k = all_append P xs (y ∷ []) h (k, tt)
+all_push P xs y h k = all-append P xs (y ∷ []) h (k, tt)
 
 pub columns_of-append : (xs ys : List Cell) → columns_of (xs ++ ys) ≡ columns_of xs ++ columns_of ys
 columns_of-append [] ys = refl
@@ -105,4 +97,4 @@ pub below_end : (cells front : List Cell) (last : Cell) → cells ≡ front ++ l
 below_end cells front last e h =
     let r : IsRow front × AllBelow last.column front × (last.coefficient ≢ 0) = row_last front last (subst IsRow e h) in
     subst (AllBelow (last.column + 1)) (sym e)
-    (all_push (λ c. c.column < last.column + 1) front last (all_weaker (λ c. c.column < last.column) (λ c. c.column < last.column + 1) (λ c b. omega (arith, b)) front r.1) (omega arith))
+    (all_push (λ c. c.column < last.column + 1) front last (all-weaker (λ c. c.column < last.column) (λ c. c.column < last.column + 1) (λ c b. omega (arith, b)) front r.1) (omega arith))

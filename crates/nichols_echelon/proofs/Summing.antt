@@ -6,7 +6,7 @@ use mir.Val.{bits}
 use Rattle.std.proofs.lemmas.Nat.Bits.{bit_at_set_same, bit_at_set_other}
 use Rattle.std.proofs.lemmas.List.{length-set}
 use Rattle.std.proofs.lemmas.Bool.{cases_eq}
-use Rattle.nichols_field.specs.Field.{FieldValue, IsField, IsElement, plus, times, settled}
+use Rattle.nichols_field.specs.Field.{FieldValue, IsField, IsElement, plus, times, element_of_sum}
 use Rattle.nichols_field.proofs.FieldLaws.{plus_assoc, plus_zero, times_plus, times_zero}
 use Rattle.nichols_field.proofs.Pending.{settled_is_element}
 use Rattle.nichols_echelon.specs.Cells.{Cell, cell_value, entry}
@@ -35,15 +35,15 @@ scatter_start k is by cells values marks marked = record {
 
 -- sums after a write that adds to one of them
 written : (k : FieldValue) → IsField k → (by : ℕ) (c : Cell) (values : List ℕ) (n j : ℕ) → c.column < length values →
-    settled k n ≡ plus k (sum_at k values c.column) (times k by c.coefficient) →
+    element_of_sum k n ≡ plus k (sum_at k values c.column) (times k by c.coefficient) →
     sum_at k (set values c.column n) j ≡ plus k (sum_at k values j) (times k by (cell_value c j))
 written k is by c values n j inside e =
     elim (cases_eq c.column j) [
       | inl here ↦
           subst (λ m. sum_at k (set values c.column n) m ≡ plus k (sum_at k values m) (times k by (cell_value c m))) here
-          (ap (settled k) (get_or-set_same values c.column n 0 inside) ∙ e ∙ ap (λ m. plus k (sum_at k values c.column) (times k by m)) (sym (cell_here c c.column refl)))
+          (ap (element_of_sum k) (get_or-set_same values c.column n 0 inside) ∙ e ∙ ap (λ m. plus k (sum_at k values c.column) (times k by m)) (sym (cell_here c c.column refl)))
       | inr there ↦
-          ap (settled k) (get_or-set_other values c.column j n 0 (λ h. there (sym h)))
+          ap (element_of_sum k) (get_or-set_other values c.column j n 0 (λ h. there (sym h)))
           ∙ sym (ap (λ m. plus k (sum_at k values j) (times k by m)) (cell_elsewhere c j there) ∙ ap (plus k (sum_at k values j)) (times_zero k by is) ∙ plus_zero k (sum_at k values j) (sum_is_element k is values j))
     ]
 
@@ -79,7 +79,7 @@ marked-set values marks c n inside m = record {
 }
 
 pub scatter_more : (k : FieldValue) → IsField k → (by : ℕ) (cells : List Cell) (initial values marks : List ℕ) (i : ℕ) (c : Cell) (d n : ℕ) → i < length cells → c ≡ get_or cells i c → d ≡ c.column →
-    d < length values → settled k n ≡ plus k (sum_at k values d) (times k by c.coefficient) → Scattered k by cells initial values marks i →
+    d < length values → element_of_sum k n ≡ plus k (sum_at k values d) (times k by c.coefficient) → Scattered k by cells initial values marks i →
     Scattered k by cells initial (set values d n) (set marks (d / 64) (with_bit (get_or marks (d / 64) 0) (d % 64))) (i + 1)
 scatter_more k is by cells initial values marks i c d n inside item same below e s =
     let at : (place : ℕ) → sum_at k (set values d n) place ≡ plus k (sum_at k values place) (times k by (cell_value c place)) =

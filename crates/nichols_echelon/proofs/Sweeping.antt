@@ -5,17 +5,17 @@ use Rattle.nichols_field.specs.Field.{FieldValue, IsField, IsElement, plus, time
 use Rattle.nichols_field.proofs.FieldLaws.{plus_comm, plus_assoc, plus_zero, times_assoc, times_comm, times_zero, plus_negative, zero_is_element, times_is_element, negative_is_element}
 use Rattle.nichols_field.proofs.FieldAlgebra.{zero_plus, zero_times, plus_times, difference_of_same}
 use Rattle.nichols_echelon.specs.Cells.{Cell, entry, AllElements}
-use Rattle.nichols_echelon.specs.Combination.{row_at, combined}
+use Rattle.nichols_echelon.specs.Combination.{row_at, combined_entry}
 use Rattle.nichols_echelon.specs.Echelon.{pivot_at, IsPivot, AreSteps}
-use Rattle.nichols_echelon.specs.Sums.{sum_at, IsZero, IsZeroFrom, IsTaken, IsSameSums}
+use Rattle.nichols_echelon.specs.Sums.{sum_at, IsZeroFrom, IsTaken}
 use Rattle.nichols_echelon.specs.Sweep.{IsSwept}
 use Rattle.nichols_echelon.proofs.Summing.{sum_is_element}
 use Rattle.nichols_echelon.proofs.Shapes.{all_push}
-use Rattle.nichols_echelon.proofs.Combinations.{combined-nil, combined-push}
+use Rattle.nichols_echelon.proofs.Combinations.{combined_entry-nil, combined_entry-push}
 use Rattle.nichols_echelon.proofs.Kept.{nothing_behind, front_here, front_elsewhere, inverse_here}
 
 pub record Sweeping (k : FieldValue) (kept : List (List Cell)) (pivots : List (Option ℕ)) (position : ℕ) (initial : List ℕ) (steps : List Cell) (values : List ℕ) (end : ℕ) : Type 0 where
-  pub value : (x : ℕ) → sum_at k initial x ≡ plus k (sum_at k values x) (combined k kept steps x)
+  pub value : (x : ℕ) → sum_at k initial x ≡ plus k (sum_at k values x) (combined_entry k kept steps x)
   pub are_steps : AreSteps k pivots position steps
   pub zero : IsZeroFrom k values end
   pub inside : end ≤ length values
@@ -24,7 +24,7 @@ pub record Sweeping (k : FieldValue) (kept : List (List Cell)) (pivots : List (O
 pub sweep_start : (k : FieldValue) → IsField k → (kept : List (List Cell)) (pivots : List (Option ℕ)) (position : ℕ) (values : List ℕ) (end : ℕ) → IsZeroFrom k values end → end ≤ length values →
     Sweeping k kept pivots position values [] values end
 sweep_start k is kept pivots position values end zero inside = record {
-  value = λ x. sym (ap (plus k (sum_at k values x)) (combined-nil k kept x) ∙ plus_zero k (sum_at k values x) (sum_is_element k is values x));
+  value = λ x. sym (ap (plus k (sum_at k values x)) (combined_entry-nil k kept x) ∙ plus_zero k (sum_at k values x) (sum_is_element k is values x));
   are_steps = record { elements = tt; below = tt; claimed = tt };
   zero = zero;
   inside = inside;
@@ -54,7 +54,7 @@ module _ (k : FieldValue) (is : IsField k) (kept : List (List Cell)) (pivots : L
         | inr other ↦ elsewhere x other ∙ t.rest x other
       ] in
       record {
-        value = λ x. s.value x ∙ ap (λ m. plus k m (combined k kept steps x)) (sym (same x));
+        value = λ x. s.value x ∙ ap (λ m. plus k m (combined_entry k kept steps x)) (sym (same x));
         are_steps = s.are_steps;
         rest = record {
           free = free;
@@ -105,8 +105,8 @@ module _ (k : FieldValue) (is : IsField k) (kept : List (List Cell)) (pivots : L
           value = λ x.
               let y : ℕ = entry k (row_at kept i) x in
               s.value x
-              ∙ sym (ap₂ (plus k) (next_is x) (combined-push k is kept steps c x ∙ ap (λ m. plus k (combined k kept steps x) (times k m y)) is_a)
-              ∙ regrouped k (sum_at k values x) (times k by y) (times k (negative k by) y) (combined k kept steps x)
+              ∙ sym (ap₂ (plus k) (next_is x) (combined_entry-push k is kept steps c x ∙ ap (λ m. plus k (combined_entry k kept steps x) (times k m y)) is_a)
+              ∙ regrouped k (sum_at k values x) (times k by y) (times k (negative k by) y) (combined_entry k kept steps x)
               (sym (plus_times k by (negative k by) y) ∙ ap (λ m. times k m y) (plus_negative k by is eb) ∙ zero_times k y is) (sum_is_element k is values x));
           are_steps = record {
             elements = all_push (λ d. IsElement k d.coefficient) steps c s.are_steps.elements (subst (IsElement k) (sym is_a) (negative_is_element k by is));
@@ -117,12 +117,3 @@ module _ (k : FieldValue) (is : IsField k) (kept : List (List Cell)) (pivots : L
           inside = omega (arith, t.inside, width);
           width = width ∙ s.width;
         }
-
--- nothing is left
-pub swept_all : (k : FieldValue) (kept : List (List Cell)) (pivots : List (Option ℕ)) (position : ℕ) (initial : List ℕ) (steps : List Cell) (values : List ℕ) (end : ℕ) →
-    Sweeping k kept pivots position initial steps values end → (new : List ℕ) → IsSameSums k values new → IsZero k new → IsSwept k kept pivots position initial new None steps
-swept_all k kept pivots position initial steps values end s new same none = record {
-  value = λ x. s.value x ∙ ap (λ m. plus k m (combined k kept steps x)) (sym (same x));
-  are_steps = s.are_steps;
-  rest = none;
-}

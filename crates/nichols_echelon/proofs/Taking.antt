@@ -7,9 +7,8 @@ use Rattle.std.proofs.lemmas.Nat.{leading_top}
 use Rattle.std.proofs.lemmas.Nat.Bits.{bit_at_above, bit_at_clear_other, bit_at-zero}
 use Rattle.std.proofs.lemmas.List.{length-set, get_or_past}
 use Rattle.std.proofs.lemmas.Bool.{cases_eq, cases_lt}
-use Rattle.nichols_field.specs.Field.{FieldValue, IsField, IsElement, settled}
+use Rattle.nichols_field.specs.Field.{FieldValue, IsField, IsElement, element_of_sum}
 use Rattle.nichols_field.proofs.Pending.{settled_zero, settled_is_element}
-use Rattle.nichols_echelon.specs.Cells.{Cell}
 use Rattle.nichols_echelon.specs.Sums.{sum_at, IsZero, IsMarked, IsTaken, IsSameSums, IsZeroFrom}
 use Rattle.nichols_echelon.proofs.Draining.{without_bit, bit_falls, zero_from, word_marked}
 
@@ -18,9 +17,6 @@ pub record Taking (k : FieldValue) (initial values marks : List ℕ) (word : ℕ
   pub same : IsSameSums k initial values
   pub clear : IsZeroFrom k values (64 * word + 64)
   pub width : length values ≡ length initial
-
-pub taking_start : (k : FieldValue) (values marks : List ℕ) (word : ℕ) → IsMarked values marks → IsZeroFrom k values (64 * word + 64) → Taking k values values marks word
-taking_start k values marks word m c = record { marked = m; same = λ place. refl; clear = c; width = refl }
 
 -- the place of the highest 1 of a word
 abbrev pub highest : ℕ → ℕ
@@ -47,7 +43,7 @@ clear_to k is initial values marks word some fits t place more =
     let top : (leading_zeros w64 m < 64) × (highest m < 64) × (bit_at m (highest m) ≡ 1) × ((i : ℕ) → highest m < i → bit_at m i ≡ 0) = bit_at-highest m some fits in
     elim (cases_lt place (64 * word + 64)) [
       | inl below ↦
-          ap (settled k)
+          ap (element_of_sum k)
           (zero_from (get_or values place 0)
           (λ d. sym (top.3 (place - 64 * word) (omega (arith, more))) ∙ word_marked values marks word place t.marked (omega (arith, more)) below d))
           ∙ settled_zero k is
@@ -79,7 +75,7 @@ unmarked values marks word t inside small m = record {
 
 -- a sum that is 0 goes, and all sums stay
 pub taking_more : (k : FieldValue) → IsField k → (initial values marks : List ℕ) (word c : ℕ) → word < length marks → 0 < get_or marks word 0 → get_or marks word 0 < 2 ^ 64 →
-    c ≡ settled k (get_or values (64 * word + highest (get_or marks word 0)) 0) → c ≡ 0 → Taking k initial values marks word →
+    c ≡ element_of_sum k (get_or values (64 * word + highest (get_or marks word 0)) 0) → c ≡ 0 → Taking k initial values marks word →
     Taking k initial (set values (64 * word + highest (get_or marks word 0)) 0) (set marks word (without_bit (get_or marks word 0) (highest (get_or marks word 0)))) word
 taking_more k is initial values marks word c inside some fits e none t =
     let m : ℕ = get_or marks word 0 in
@@ -92,16 +88,16 @@ taking_more k is initial values marks word c inside some fits e none t =
       same = λ place.
           elim (cases_eq place p) [
             | inl at ↦
-                ap (λ n. sum_at k (set values p 0) n) at ∙ ap (settled k) (get_or-set_same values p 0 0 here) ∙ settled_zero k is
+                ap (λ n. sum_at k (set values p 0) n) at ∙ ap (element_of_sum k) (get_or-set_same values p 0 0 here) ∙ settled_zero k is
                 ∙ sym none ∙ e ∙ ap (λ n. sum_at k values n) (sym at) ∙ t.same place
-            | inr other ↦ ap (settled k) (get_or-set_other values p place 0 0 other) ∙ t.same place
+            | inr other ↦ ap (element_of_sum k) (get_or-set_other values p place 0 0 other) ∙ t.same place
           ];
-      clear = λ place more. ap (settled k) (get_or-set_other values p place 0 0 (λ z. (let no : ⊥ = omega (arith, z, more, small) in no))) ∙ t.clear place more;
+      clear = λ place more. ap (element_of_sum k) (get_or-set_other values p place 0 0 (λ z. (let no : ⊥ = omega (arith, z, more, small) in no))) ∙ t.clear place more;
       width = length-set values p 0 ∙ t.width;
     }
 
 pub taken : (k : FieldValue) → IsField k → (initial values marks : List ℕ) (word c : ℕ) → word < length marks → 0 < get_or marks word 0 → get_or marks word 0 < 2 ^ 64 →
-    c ≡ settled k (get_or values (64 * word + highest (get_or marks word 0)) 0) → c ≢ 0 → Taking k initial values marks word →
+    c ≡ element_of_sum k (get_or values (64 * word + highest (get_or marks word 0)) 0) → c ≢ 0 → Taking k initial values marks word →
     IsTaken k initial (set values (64 * word + highest (get_or marks word 0)) 0) (record { column = 64 * word + highest (get_or marks word 0); coefficient = c })
 taken k is initial values marks word c inside some fits e nonzero t =
     let m : ℕ = get_or marks word 0 in
@@ -117,10 +113,10 @@ taken k is initial values marks word c inside some fits e nonzero t =
       here = e ∙ t.same p;
       gone = λ place more.
           elim (cases_eq place p) [
-            | inl at ↦ ap (λ n. sum_at k (set values p 0) n) at ∙ ap (settled k) (get_or-set_same values p 0 0 here) ∙ settled_zero k is
-            | inr other ↦ ap (settled k) (get_or-set_other values p place 0 0 other) ∙ clear place (omega (arith, more, other))
+            | inl at ↦ ap (λ n. sum_at k (set values p 0) n) at ∙ ap (element_of_sum k) (get_or-set_same values p 0 0 here) ∙ settled_zero k is
+            | inr other ↦ ap (element_of_sum k) (get_or-set_other values p place 0 0 other) ∙ clear place (omega (arith, more, other))
           ];
-      rest = λ place other. ap (settled k) (get_or-set_other values p place 0 0 other) ∙ t.same place;
+      rest = λ place other. ap (element_of_sum k) (get_or-set_other values p place 0 0 other) ∙ t.same place;
       behind = λ place more. sym (t.same place) ∙ clear place (omega (arith, more));
     }
 
@@ -128,28 +124,16 @@ pub word_clear : (k : FieldValue) → IsField k → (initial values marks : List
 word_clear k is initial values marks word none t place from =
     elim (cases_lt place (64 * word + 64)) [
       | inl below ↦
-          ap (settled k)
+          ap (element_of_sum k)
           (zero_from (get_or values place 0)
           (λ d. sym (ap (λ w. bit_at w (place - 64 * word)) none ∙ bit_at-zero (place - 64 * word)) ∙ word_marked values marks word place t.marked from below d))
           ∙ settled_zero k is
       | inr more ↦ t.clear place more
     ]
 
--- taken from sums that are the same
-pub taken_after : (k : FieldValue) (initial values new : List ℕ) (cell : Cell) → length values ≡ length initial → IsSameSums k initial values → IsTaken k values new cell → IsTaken k initial new cell
-taken_after k initial values new cell width same t = record {
-  nonzero = t.nonzero;
-  element = t.element;
-  inside = omega (arith, t.inside, width);
-  here = t.here ∙ same cell.column;
-  gone = t.gone;
-  rest = λ place other. t.rest place other ∙ same place;
-  behind = λ place more. sym (same place) ∙ t.behind place more;
-}
-
 -- past the last place each sum is 0
 pub zero_past : (k : FieldValue) → IsField k → (values : List ℕ) (end : ℕ) → length values ≤ end → IsZeroFrom k values end
-zero_past k is values end whole place from = ap (settled k) (get_or_past values place 0 (omega (arith, whole, from))) ∙ settled_zero k is
+zero_past k is values end whole place from = ap (element_of_sum k) (get_or_past values place 0 (omega (arith, whole, from))) ∙ settled_zero k is
 
 -- the same where the word of marks has a name
 pub unmarked_at : (values marks : List ℕ) (word left : ℕ) → left ≡ get_or marks word 0 → word < length marks → 0 < left → left < 2 ^ 64 → IsMarked values marks →
@@ -159,18 +143,18 @@ unmarked_at values marks word left e inside some fits m =
     (unmarked values marks word (highest left) inside (bit_at-highest left some fits).1 m)
 
 pub taking_more_at : (k : FieldValue) → IsField k → (initial values marks : List ℕ) (word left c : ℕ) → left ≡ get_or marks word 0 → word < length marks → 0 < left → left < 2 ^ 64 →
-    c ≡ settled k (get_or values (64 * word + highest left) 0) → c ≡ 0 → Taking k initial values marks word →
+    c ≡ element_of_sum k (get_or values (64 * word + highest left) 0) → c ≡ 0 → Taking k initial values marks word →
     Taking k initial (set values (64 * word + highest left) 0) (set marks word (without_bit left (highest left))) word
 taking_more_at k is initial values marks word left c same inside =
-    subst (λ n. 0 < n → n < 2 ^ 64 → c ≡ settled k (get_or values (64 * word + highest n) 0) → c ≡ 0 → Taking k initial values marks word →
+    subst (λ n. 0 < n → n < 2 ^ 64 → c ≡ element_of_sum k (get_or values (64 * word + highest n) 0) → c ≡ 0 → Taking k initial values marks word →
     Taking k initial (set values (64 * word + highest n) 0) (set marks word (without_bit n (highest n))) word) (sym same)
     (taking_more k is initial values marks word c inside)
 
 pub taken_at : (k : FieldValue) → IsField k → (initial values marks : List ℕ) (word left c : ℕ) → left ≡ get_or marks word 0 → word < length marks → 0 < left → left < 2 ^ 64 →
-    c ≡ settled k (get_or values (64 * word + highest left) 0) → c ≢ 0 → Taking k initial values marks word →
+    c ≡ element_of_sum k (get_or values (64 * word + highest left) 0) → c ≢ 0 → Taking k initial values marks word →
     IsTaken k initial (set values (64 * word + highest left) 0) (record { column = 64 * word + highest left; coefficient = c })
 taken_at k is initial values marks word left c same inside =
-    subst (λ n. 0 < n → n < 2 ^ 64 → c ≡ settled k (get_or values (64 * word + highest n) 0) → c ≢ 0 → Taking k initial values marks word →
+    subst (λ n. 0 < n → n < 2 ^ 64 → c ≡ element_of_sum k (get_or values (64 * word + highest n) 0) → c ≢ 0 → Taking k initial values marks word →
     IsTaken k initial (set values (64 * word + highest n) 0) (record { column = 64 * word + highest n; coefficient = c })) (sym same)
     (taken k is initial values marks word c inside)
 
@@ -180,4 +164,4 @@ replicate_zero (suc n) zero = refl
 replicate_zero (suc n) (suc i) = replicate_zero n i
 
 pub zero_at_first : (k : FieldValue) → IsField k → (values : List ℕ) (n : ℕ) → values ≡ replicate n 0 → IsZero k values
-zero_at_first k is values n e place = ap (settled k) (ap (λ vs. get_or vs place 0) e ∙ replicate_zero n place) ∙ settled_zero k is
+zero_at_first k is values n e place = ap (element_of_sum k) (ap (λ vs. get_or vs place 0) e ∙ replicate_zero n place) ∙ settled_zero k is

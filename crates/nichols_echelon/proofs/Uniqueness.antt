@@ -6,13 +6,14 @@ use Rattle.nichols_field.specs.Field.{FieldValue, IsField, IsElement, plus, time
 use Rattle.nichols_field.proofs.FieldLaws.{plus_zero, times_assoc, times_comm, times_plus, times_zero, zero_is_element, times_is_element, has_reciprocal}
 use Rattle.nichols_field.proofs.FieldAlgebra.{zero_plus, zero_times, one_times, same_from_difference, difference_of_same, negative_twice}
 use Rattle.nichols_echelon.specs.Cells.{Cell, entry, IsRow, AllElements, AllBelow}
-use Rattle.nichols_echelon.specs.Combination.{row_at, combined, IsDependent, AllFree, AreEqualCombinations}
+use Rattle.nichols_echelon.specs.Combination.{row_at, combined_entry, IsDependent, AllFree, AreEqualCombinations}
 use Rattle.nichols_echelon.specs.Split.{place_at, AllIndependent, IsPlace, IsSplit}
 use Rattle.nichols_echelon.specs.declared.rows.Place.{Place}
 use Rattle.nichols_echelon.specs.declared.rows.Place.TheVariants.{Independent, Depends}
-use Rattle.nichols_echelon.proofs.Shapes.{all_append, all_weaker, all_both}
+use Rattle.nichols_echelon.proofs.Shapes.{all_both}
 use Rattle.nichols_echelon.proofs.Entries.{entry-nil, entry-cons, entry_is_element, entry-without_other, entry-without_same, scaled, without, cell_elsewhere, row_from_entries}
-use Rattle.nichols_echelon.proofs.Combinations.{combined_split, combined-nil, combined-scaled, combined_is_element, all_below-without, all_below-scaled, all_elements-scaled, difference, entry-difference, combined-difference, all_below-difference}
+use Rattle.nichols_echelon.proofs.Combinations.{combined_split, combined_entry-nil, combined_entry-scaled, combined_is_element, all_below-without, all_below-scaled, all_elements-scaled, difference, entry-difference, combined_entry-difference, all_below-difference}
+use Rattle.nichols_tensor.proofs.Over.{all-append, all-weaker}
 
 -- a r + s ≡ 0 and a b ≡ 1 give r as a multiple of s
 solved : (k : FieldValue) → IsField k → (a b r s : ℕ) → IsElement k r → times k a b ≡ 1 → plus k (times k a r) s ≡ 0 → r ≡ times k (times k (negative k 1) b) s
@@ -28,7 +29,7 @@ AreIndependent k rows cells = (j : ℕ) → entry k cells j ≢ 0 → IsDependen
 
 -- a combination of independent rows that is 0 has each coefficient 0
 pub independent_zero : (k : FieldValue) → IsField k → (rows : List (List Cell)) (n : ℕ) (cells : List Cell) → AllBelow n cells → AreIndependent k rows cells →
-    ((column : ℕ) → combined k rows cells column ≡ 0) → (j : ℕ) → entry k cells j ≡ 0
+    ((column : ℕ) → combined_entry k rows cells column ≡ 0) → (j : ℕ) → entry k cells j ≡ 0
 independent_zero k is rows n [] below free none j = entry-nil k j
 independent_zero k is rows zero (c ∷ cells) below free none j = absurd (omega (arith, below.0))
 independent_zero k is rows (suc n) (c ∷ cells) below free none j =
@@ -44,12 +45,12 @@ independent_zero k is rows (suc n) (c ∷ cells) below free none j =
           | inr other ↦ free i (λ e. nonzero (entry-without_other k is n all i other ∙ e)) dependent
         ]
 
-    rest_none : entry k all n ≡ 0 → (column : ℕ) → combined k rows (without n all) column ≡ 0
+    rest_none : entry k all n ≡ 0 → (column : ℕ) → combined_entry k rows (without n all) column ≡ 0
     rest_none e column =
         sym (combined_split k is rows n all column
-        ∙ ap (λ v. plus k (times k v (entry k (row_at rows n) column)) (combined k rows (without n all) column)) e
-        ∙ ap (λ v. plus k v (combined k rows (without n all) column)) (zero_times k (entry k (row_at rows n) column) is)
-        ∙ zero_plus k (combined k rows (without n all) column) (combined_is_element k is rows (without n all) column))
+        ∙ ap (λ v. plus k (times k v (entry k (row_at rows n) column)) (combined_entry k rows (without n all) column)) e
+        ∙ ap (λ v. plus k v (combined_entry k rows (without n all) column)) (zero_times k (entry k (row_at rows n) column) is)
+        ∙ zero_plus k (combined_entry k rows (without n all) column) (combined_is_element k is rows (without n all) column))
         ∙ none column
 
     depends : (b : ℕ) → times k (entry k all n) b ≡ 1 → IsDependent k rows n
@@ -59,9 +60,9 @@ independent_zero k is rows (suc n) (c ∷ cells) below free none j =
         earlier = all_below-scaled k (times k (negative k 1) b) n (without n all) (all_below-without n all below);
         elements = all_elements-scaled k is (times k (negative k 1) b) (without n all);
         value = λ column.
-            solved k is (entry k all n) b (entry k (row_at rows n) column) (combined k rows (without n all) column) (entry_is_element k is (row_at rows n) column) inverse
+            solved k is (entry k all n) b (entry k (row_at rows n) column) (combined_entry k rows (without n all) column) (entry_is_element k is (row_at rows n) column) inverse
             (sym (combined_split k is rows n all column) ∙ none column)
-            ∙ sym (combined-scaled k is rows (times k (negative k 1) b) (without n all) column);
+            ∙ sym (combined_entry-scaled k is rows (times k (negative k 1) b) (without n all) column);
       },
     )
 
@@ -92,17 +93,17 @@ free_scaled k rows a (c ∷ cells) free = (free.0, free_scaled k rows a cells fr
 
 free_difference : (k : FieldValue) (rows : List (List Cell)) (xs ys : List Cell) → AllFree k rows xs → AllFree k rows ys → AllFree k rows (difference k xs ys)
 unfolding difference
-free_difference k rows xs ys hx hy = all_append (λ c. IsDependent k rows c.column → ⊥) xs (scaled k (negative k 1) ys) hx (free_scaled k rows (negative k 1) ys hy)
+free_difference k rows xs ys hx hy = all-append (λ c. IsDependent k rows c.column → ⊥) xs (scaled k (negative k 1) ys) hx (free_scaled k rows (negative k 1) ys hy)
 
 -- two rows of positions of independent rows with the same combination are the same
 pub combination_is_unique : (k : FieldValue) → IsField k → (rows : List (List Cell)) (n : ℕ) (xs ys : List Cell) → IsRow xs → IsRow ys → AllElements k xs → AllElements k ys →
-    AllBelow n xs → AllBelow n ys → AllFree k rows xs → AllFree k rows ys → ((column : ℕ) → combined k rows xs column ≡ combined k rows ys column) → xs ≡ ys
+    AllBelow n xs → AllBelow n ys → AllFree k rows xs → AllFree k rows ys → ((column : ℕ) → combined_entry k rows xs column ≡ combined_entry k rows ys column) → xs ≡ ys
 combination_is_unique k is rows n xs ys rx ry ex ey bx by fx fy same =
     row_from_entries k is xs ys rx ry ex ey
     (λ j. same_from_difference k (entry k xs j) (entry k ys j) is (entry_is_element k is xs j) (entry_is_element k is ys j)
     (sym (entry-difference k is xs ys j)
     ∙ independent_zero k is rows n (difference k xs ys) (all_below-difference k n xs ys bx by) (free_entries k is rows (difference k xs ys) (free_difference k rows xs ys fx fy))
-    (λ column. combined-difference k is rows xs ys column ∙ ap (λ v. plus k v (times k (negative k 1) (combined k rows ys column))) (same column) ∙ difference_of_same k (combined k rows ys column) is) j))
+    (λ column. combined_entry-difference k is rows xs ys column ∙ ap (λ v. plus k v (times k (negative k 1) (combined_entry k rows ys column))) (same column) ∙ difference_of_same k (combined_entry k rows ys column) is) j))
 
 -- past the last row each position is dependent
 free_inside : (k : FieldValue) (rows : List (List Cell)) (j : ℕ) → (IsDependent k rows j → ⊥) → j < length rows
@@ -115,13 +116,13 @@ free_inside k rows j free =
             record {
               earlier = tt;
               elements = tt;
-              value = λ column. ap (λ (r : List Cell). entry k r column) (get_or_past rows j [] past) ∙ entry-nil k column ∙ sym (combined-nil k rows column);
+              value = λ column. ap (λ (r : List Cell). entry k r column) (get_or_past rows j [] past) ∙ entry-nil k column ∙ sym (combined_entry-nil k rows column);
             },
           ))
     ]
 
 pub free_below : (k : FieldValue) (rows : List (List Cell)) (cells : List Cell) → AllFree k rows cells → AllBelow (length rows) cells
-free_below k rows cells free = all_weaker (λ c. IsDependent k rows c.column → ⊥) (λ c. c.column < length rows) (λ c f. free_inside k rows c.column f) cells free
+free_below k rows cells free = all-weaker (λ c. IsDependent k rows c.column → ⊥) (λ c. c.column < length rows) (λ c f. free_inside k rows c.column f) cells free
 
 -- the law as it is stated
 pub unique_combination : (k : FieldValue) (rows : List (List Cell)) (xs ys : List Cell) → IsField k → IsRow xs → IsRow ys → AllElements k xs → AllElements k ys → AllFree k rows xs → AllFree k rows ys → AreEqualCombinations k rows xs ys → xs ≡ ys

@@ -21,15 +21,15 @@ abbrev pub AreRows : List (List Cell) → Type 0
 AreRows rows = AllByRecursion (λ row. IsRow row) rows
 
 -- the entry at a column of a combination of rows: each cell is the position of a row with its coefficient
-unfoldable pub combined : FieldValue → List (List Cell) → List Cell → ℕ → ℕ
-combined field rows [] column = 0
-combined field rows (c ∷ cells) column = plus field (times field c.coefficient (entry field (row_at rows c.column) column)) (combined field rows cells column)
+unfoldable pub combined_entry : FieldValue → List (List Cell) → List Cell → ℕ → ℕ
+combined_entry field rows [] column = 0
+combined_entry field rows (c ∷ cells) column = plus field (times field c.coefficient (entry field (row_at rows c.column) column)) (combined_entry field rows cells column)
 
 -- the row at a position is, at every column, this combination of the rows before it
 pub record IsCombination (field : FieldValue) (rows : List (List Cell)) (k : ℕ) (cells : List Cell) : Type 0 where
   pub earlier : AllBelow k cells
   pub elements : AllElements field cells
-  pub value : (column : ℕ) → entry field (row_at rows k) column ≡ combined field rows cells column
+  pub value : (column : ℕ) → entry field (row_at rows k) column ≡ combined_entry field rows cells column
 
 -- the row at a position is some combination of the rows before it
 abbrev pub IsDependent : FieldValue → List (List Cell) → ℕ → Type 0
@@ -41,4 +41,4 @@ AllFree field rows cells = AllByRecursion (λ c. IsDependent field rows c.column
 
 -- two lists of positions with coefficients give the same combination of the rows
 abbrev pub AreEqualCombinations : FieldValue → List (List Cell) → List Cell → List Cell → Type 0
-AreEqualCombinations field rows xs ys = (column : ℕ) → combined field rows xs column ≡ combined field rows ys column
+AreEqualCombinations field rows xs ys = (column : ℕ) → combined_entry field rows xs column ≡ combined_entry field rows ys column

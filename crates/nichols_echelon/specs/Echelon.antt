@@ -3,7 +3,7 @@ use Rattle.std.specs.Prelude.{◌≡◌, ◌<◌, ◌≤◌, ◌++◌, ℕ, List
 use Rattle.std.specs.List.{AllByRecursion}
 use Rattle.nichols_field.specs.Field.{FieldValue, IsElement, plus, times, negative}
 use Rattle.nichols_echelon.specs.Cells.{Cell, entry, IsRow, AllElements, AllBelow}
-use Rattle.nichols_echelon.specs.Combination.{row_at, combined}
+use Rattle.nichols_echelon.specs.Combination.{row_at, combined_entry}
 
 -- what is kept of a row: what is left of it, or the row itself where nothing was taken out
 abbrev pub kept_row : List Cell → List Cell → List Cell
@@ -47,7 +47,7 @@ pub record AreSteps (field : FieldValue) (pivots : List (Option ℕ)) (position 
 -- each row is what is kept of it and its combination of kept rows
 abbrev pub AreMade : FieldValue → List (List Cell) → List (List Cell) → List (List Cell) → Type 0
 AreMade field rows kept steps = (i : ℕ) → i < length steps → (column : ℕ) →
-    entry field (row_at rows i) column ≡ plus field (entry field (row_at kept i) column) (combined field kept (row_at steps i) column)
+    entry field (row_at rows i) column ≡ plus field (entry field (row_at kept i) column) (combined_entry field kept (row_at steps i) column)
 
 -- what is left of the first rows, the multiples of kept rows that were taken out of each, and the columns at which the kept rows end
 pub record IsEchelon (field : FieldValue) (rows left steps : List (List Cell)) (factors : List ℕ) (pivots : List (Option ℕ)) : Type 0 where

@@ -2,7 +2,7 @@
 use Rattle.std.specs.Prelude.{◌≡◌, ◌<◌, ◌++◌, ℕ, List, [], ◌∷◌, Option, Some, None, length, slice_set}
 use Rattle.nichols_field.specs.Field.{FieldValue, plus}
 use Rattle.nichols_echelon.specs.Cells.{Cell, entry, AllElements, AllBelow}
-use Rattle.nichols_echelon.specs.Combination.{row_at, combined}
+use Rattle.nichols_echelon.specs.Combination.{row_at, combined_entry}
 use Rattle.nichols_echelon.specs.Split.{place_at, IsPlace}
 use Rattle.nichols_echelon.specs.Echelon.{kept_row, kept_rows, pivot_at, IsClaimed, IsPivot, AreSteps, IsEchelon}
 use Rattle.nichols_echelon.specs.Sweep.{IsTraced}
@@ -34,13 +34,13 @@ pub record IsKept (field : FieldValue) (rows : List (List Cell)) (old new : Eche
   pub below : AllBelow (length old.pivots.items) (kept_row (row_at rows (length old.left.rows)) left)
   pub are_steps : AreSteps field old.pivots.items (length old.left.rows) steps
   pub value : (x : ℕ) → entry field (row_at rows (length old.left.rows)) x ≡
-      plus field (entry field (kept_row (row_at rows (length old.left.rows)) left) x) (combined field (kept_rows rows old.left.rows) steps x)
+      plus field (entry field (kept_row (row_at rows (length old.left.rows)) left) x) (combined_entry field (kept_rows rows old.left.rows) steps x)
 
 -- the next row is a combination of kept rows, and so of rows
 pub record IsSpent (field : FieldValue) (rows : List (List Cell)) (old new : Echelon) (cells : List Cell) : Type 0 where
   pub steps : List Cell
   pub grown : IsGrown old new [] [] 0 old.pivots.items
-  pub value : (x : ℕ) → entry field (row_at rows (length old.left.rows)) x ≡ combined field (kept_rows rows old.left.rows) steps x
+  pub value : (x : ℕ) → entry field (row_at rows (length old.left.rows)) x ≡ combined_entry field (kept_rows rows old.left.rows) steps x
   pub traced : IsTraced field old.pivots.items old.steps.rows steps cells
 
 -- what is kept and answered of the next row

@@ -1,13 +1,13 @@
 -- Sums of rows, as one unreduced number for each place.
 use Rattle.std.specs.Prelude.{◌≡◌, ◌≢◌, ◌≤◌, ◌<◌, ◌*◌, ◌/◌, ◌%◌, ◌^◌, ◌++◌, ◌∷◌, [], ◌==◌, ℕ, List, length, slice_index, if◌then◌else◌}
 use Rattle.std.specs.Int.{bit_at}
-use Rattle.nichols_field.specs.Field.{FieldValue, IsElement, settled, plus}
+use Rattle.nichols_field.specs.Field.{FieldValue, IsElement, element_of_sum, plus}
 use Rattle.nichols_echelon.specs.Cells.{Cell, IsRow, AllElements, AllBelow, entry}
 use Rattle.nichols_echelon.specs.Rows.{RowsValue}
 
 -- the sum at a place
 abbrev pub sum_at : FieldValue → List ℕ → ℕ → ℕ
-sum_at field values place = settled field (slice_index values place)
+sum_at field values place = element_of_sum field (slice_index values place)
 
 -- each sum is 0
 abbrev pub IsZero : FieldValue → List ℕ → Type 0

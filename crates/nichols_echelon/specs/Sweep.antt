@@ -2,7 +2,7 @@
 use Rattle.std.specs.Prelude.{◌≡◌, ◌≢◌, ◌<◌, ◌+◌, ℕ, List, Option, Some, None, length}
 use Rattle.nichols_field.specs.Field.{FieldValue, IsElement, plus}
 use Rattle.nichols_echelon.specs.Cells.{Cell, IsRow, AllElements, AllBelow}
-use Rattle.nichols_echelon.specs.Combination.{combined}
+use Rattle.nichols_echelon.specs.Combination.{combined_entry}
 use Rattle.nichols_echelon.specs.Sums.{sum_at, IsZero, IsZeroFrom}
 use Rattle.nichols_echelon.specs.Echelon.{pivot_at, AllClaimed, AreSteps, AreMade}
 
@@ -22,13 +22,13 @@ EndsFree field pivots values (Some last) = IsFreeEnd field pivots values last
 
 -- multiples of kept rows were taken out of the sums
 pub record IsSwept (field : FieldValue) (kept : List (List Cell)) (pivots : List (Option ℕ)) (position : ℕ) (old new : List ℕ) (last : Option Cell) (steps : List Cell) : Type 0 where
-  pub value : (column : ℕ) → sum_at field old column ≡ plus field (sum_at field new column) (combined field kept steps column)
+  pub value : (column : ℕ) → sum_at field old column ≡ plus field (sum_at field new column) (combined_entry field kept steps column)
   pub are_steps : AreSteps field pivots position steps
   pub rest : EndsFree field pivots new last
 
 -- a combination of kept rows, as one of the rows that they come from
 pub record IsTraced (field : FieldValue) (pivots : List (Option ℕ)) (all_steps : List (List Cell)) (steps cells : List Cell) : Type 0 where
-  pub value : (rows kept : List (List Cell)) → AreMade field rows kept all_steps → (column : ℕ) → combined field rows cells column ≡ combined field kept steps column
+  pub value : (rows kept : List (List Cell)) → AreMade field rows kept all_steps → (column : ℕ) → combined_entry field rows cells column ≡ combined_entry field kept steps column
   pub shape : IsRow cells
   pub elements : AllElements field cells
   pub below : AllBelow (length all_steps) cells

@@ -3,7 +3,7 @@ use Rattle.std.proofs.Common.{ℕ, List}
 use Rattle.nichols_field.specs.Field.{FieldValue, IsField, IsElement}
 use Rattle.nichols_field.proofs.FieldLaws.{one_is_element, negative_is_element, residue_is_element}
 use Rattle.nichols_tensor.specs.Combination.{Term, Combination, AllElements}
-use Rattle.nichols_expression.specs.Bytes.{signed}
+use Rattle.nichols_expression.specs.Bytes.{signed_term}
 use Rattle.nichols_expression.specs.declared.signs.Sign.{Sign}
 use Rattle.nichols_expression.specs.declared.signs.Sign.TheVariants.{Positive, Reversed}
 use Rattle.nichols_expression.specs.Grammar.{IsCoefficient, number, IsTermText, alone, multiple, IsTerms, last_term, next_term, IsSignedTerms, unsigned, after_sign, IsExpression, nothing, terms}
@@ -15,7 +15,7 @@ term_element k is n _ _ (multiple {number = digits} {c} p one two q) = at digits
     at : (ds : List ℕ) (c : ℕ) → IsCoefficient k ds c → IsElement k c
     at _ _ (number numeral short) = residue_is_element k _ is
 
-signed_element : (k : FieldValue) → IsField k → (sign : Sign) (t : Term) → IsElement k t.coefficient → IsElement k (signed k sign t).coefficient
+signed_element : (k : FieldValue) → IsField k → (sign : Sign) (t : Term) → IsElement k t.coefficient → IsElement k (signed_term k sign t).coefficient
 signed_element k is Positive t h = h
 signed_element k is Reversed t h = negative_is_element k t.coefficient is
 

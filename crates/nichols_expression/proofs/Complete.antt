@@ -9,11 +9,8 @@ use Rattle.nichols_expression.specs.declared.TheConstants.{NUMBER_LIMIT}
 use Rattle.nichols_expression.specs.Bytes.{space, star, dot, empty_byte}
 use Rattle.nichols_expression.specs.Grammar.{IsSpaces, IsLetters, last_letter, next_letter, IsWordText, empty_word, letters, IsCoefficient, number, IsTermText, alone, multiple}
 use Rattle.std.specs.Char.{is_ascii_digit}
-use Rattle.nichols_expression.specs.Reader.{Step, got, mapped, run_at, past_run, past_spaces, is_letter_run, at_dot, after_dot, after_letter, past_letter, at_run, letters_at, word_by, word_at, with_coefficient, bare_word, numbered, by_star, past_first_run, term_by, term_at}
+use Rattle.nichols_expression.specs.Reader.{Step, got, map_step, run_at, past_run, past_spaces, is_letter_run, at_dot, after_dot, after_letter, past_letter, at_run, letters_at, word_by, word_at, with_coefficient, bare_word, term_after_number, by_star, past_first_run, term_by, term_at}
 use Rattle.nichols_expression.proofs.Fronts.{Begins, Avoids, begins_term, digit_begins, begins_weaker, begins_avoids, spaces_avoid, past_gap, past_no_spaces, run_is, past_run_is, numeral_begins, IsLetterRun, letter_run, letters_begin}
-
-abbrev is_dot : ℕ → Bool
-is_dot b = nat_eq b dot
 
 abbrev is_star : ℕ → Bool
 is_star b = nat_eq b star
@@ -51,7 +48,7 @@ letters_complete n small (suc room) _ _ (last_letter {text} {a} l) fits rest no_
 letters_complete n small (suc room) _ _ (next_letter {text} {rest = more} {w} {a} l p) fits rest no_digit no_dot =
     ap (letters_at n (suc room)) (append_assoc text (dot ∷ more) rest)
     ∙ letters_step n room text (dot ∷ more ++ rest) a (letter_run n small text a l) refl
-    ∙ ap (mapped (λ v. a ∷ v)) (dot_goes_on (letters_at n room) (more ++ rest) (letters_begin n small more w p rest) ∙ letters_complete n small room more w p (omega (arith, fits)) rest no_digit no_dot)
+    ∙ ap (map_step (λ v. a ∷ v)) (dot_goes_on (letters_at n room) (more ++ rest) (letters_begin n small more w p rest) ∙ letters_complete n small room more w p (omega (arith, fits)) rest no_digit no_dot)
 
 -- ---- words
 
@@ -100,7 +97,7 @@ word_term field n small _ _ empty_word rest after = (refl, refl)
 word_term field n small _ _ (letters {text} {w} p fits) rest after =
     read_at_digit field n (text ++ rest) (with_coefficient 1 w) rest (letters_begin n small text w p rest)
     (no_star_bare field n (text ++ rest) (past_spaces (past_run (text ++ rest))) (no_star_after n small text w p rest after)
-    ∙ ap (mapped (with_coefficient 1)) (word_complete n small text w (letters p fits) rest after.no_digit after.no_dot))
+    ∙ ap (map_step (with_coefficient 1)) (word_complete n small text w (letters p fits) rest after.no_digit after.no_dot))
 
 number_term : (field : FieldValue) (n : ℕ) → n ≤ LETTER_LIMIT → (digits before between text w : List ℕ) → IsNumeral 10 digits → length digits ≤ NUMBER_LIMIT → IsSpaces before → IsSpaces between → IsWordText n text w →
     (rest : List ℕ) → IsAfterTerm rest → TermRead field n (digits ++ (before ++ star ∷ (between ++ (text ++ rest)))) (with_coefficient (residue field (pos (digits_value 10 digits))) w) rest
@@ -114,9 +111,9 @@ number_term field n small digits before between text w numeral short gap second 
     let to_word : past_spaces (between ++ (text ++ rest)) ≡ text ++ rest = past_gap between second (text ++ rest) (begins_avoids begins_term space refl (text ++ rest) (word_begins n small text w p rest)) in
     read_at_digit field n whole (with_coefficient (residue field (pos (digits_value 10 digits))) w) rest (numeral_begins digits (before ++ tail) numeral)
     (ap (past_first_run field n whole) stars
-    ∙ ap (λ b. numbered field n b whole (between ++ (text ++ rest))) (ap (λ r. nat_le (length r) NUMBER_LIMIT) run_same ∙ fits)
-    ∙ ap (λ r. mapped (with_coefficient (residue field (pos (digits_value 10 r)))) (word_at n (past_spaces (between ++ (text ++ rest))))) run_same
-    ∙ ap (mapped (with_coefficient (residue field (pos (digits_value 10 digits))))) (ap (word_at n) to_word ∙ word_complete n small text w p rest after.no_digit after.no_dot))
+    ∙ ap (λ b. term_after_number field n b whole (between ++ (text ++ rest))) (ap (λ r. nat_le (length r) NUMBER_LIMIT) run_same ∙ fits)
+    ∙ ap (λ r. map_step (with_coefficient (residue field (pos (digits_value 10 r)))) (word_at n (past_spaces (between ++ (text ++ rest))))) run_same
+    ∙ ap (map_step (with_coefficient (residue field (pos (digits_value 10 digits))))) (ap (word_at n) to_word ∙ word_complete n small text w p rest after.no_digit after.no_dot))
 
 pub term_complete : (field : FieldValue) (n : ℕ) → n ≤ LETTER_LIMIT → (text : List ℕ) (t : Term) → IsTermText field n text t → (rest : List ℕ) → IsAfterTerm rest → TermRead field n (text ++ rest) t rest
 term_complete field n small _ _ (alone {text} {w} p) rest after = word_term field n small text w p rest after

@@ -6,12 +6,12 @@ use Rattle.nichols_field.specs.Field.{FieldValue, residue}
 use Rattle.nichols_tensor.specs.Combination.{Term}
 use Rattle.nichols_tensor.specs.declared.TheConstants.{WORD_LIMIT}
 use Rattle.nichols_expression.specs.declared.TheConstants.{NUMBER_LIMIT, TERM_LIMIT}
-use Rattle.nichols_expression.specs.Bytes.{space, star, dot, zero_digit, empty_byte, signed}
+use Rattle.nichols_expression.specs.Bytes.{space, star, dot, zero_digit, empty_byte, signed_term}
 use Rattle.nichols_expression.specs.declared.signs.Sign.{Sign}
 use Rattle.nichols_expression.specs.declared.signs.Sign.TheVariants.{Positive}
 use Rattle.nichols_expression.specs.declared.faults.Cause.{Cause}
 use Rattle.nichols_expression.specs.declared.faults.Cause.TheVariants.{Early, Byte, Letter, LongNumber, LongWord, Terms, Surplus}
-use Rattle.nichols_expression.specs.Reader.{Step, mapped, fault, run_at, past_run, past_spaces, is_letter_run, at_dot, after_dot, after_letter, past_letter, at_run, letters_at, word_by, word_at, with_coefficient, bare_word, numbered, by_star, past_first_run, term_by, term_at, sign_of, Read, put_first, after_term, past_term, with_term, terms_at, is_empty, signed_by, zero_or_terms, expression_at, read_terms}
+use Rattle.nichols_expression.specs.Reader.{Step, map_step, fault, run_at, past_run, past_spaces, is_letter_run, at_dot, after_dot, after_letter, past_letter, at_run, letters_at, word_by, word_at, with_coefficient, bare_word, term_after_number, by_star, past_first_run, term_by, term_at, sign_of, Read, put_first, after_term, past_term, with_term, terms_at, is_empty, signed_by, zero_or_terms, expression_at, read_terms}
 
 -- what is left is an end of the text
 pub data IsEndOf (left : List ℕ) : List ℕ → Type 0 where
@@ -78,7 +78,7 @@ faults_later : (rest text : List ℕ) (r : Read) → IsEndOf rest text → Fault
 faults_later rest text (Ok f) p q = tt
 faults_later rest text (Err e) p q = (end_trans e.left rest text q.0 p, q.1)
 
-mapped_stops_in : {X Y : Type 0} (text : List ℕ) (f : X → Y) (r : Step X) → StopsIn text r → StopsIn text (mapped f r)
+mapped_stops_in : {X Y : Type 0} (text : List ℕ) (f : X → Y) (r : Step X) → StopsIn text r → StopsIn text (map_step f r)
 mapped_stops_in text f (Ok r) p = p
 mapped_stops_in text f (Err e) p = p
 
@@ -101,7 +101,7 @@ past_letter_stops further ih a [] = whole
 past_letter_stops further ih a (byte ∷ rest) = at (nat_eq byte dot)
   where
     at : (b : Bool) → StopsIn (byte ∷ rest) (after_letter further a b byte rest)
-    at true = stops_later rest (byte ∷ rest) (mapped (λ w. a ∷ w) (at_dot further rest)) (later byte whole) (mapped_stops_in rest (λ w. a ∷ w) (at_dot further rest) (at_dot_stops further ih rest))
+    at true = stops_later rest (byte ∷ rest) (map_step (λ w. a ∷ w) (at_dot further rest)) (later byte whole) (mapped_stops_in rest (λ w. a ∷ w) (at_dot further rest) (at_dot_stops further ih rest))
     at false = whole
 
 letters_stop : (n room : ℕ) → StopsWithin (letters_at n room)
@@ -134,11 +134,11 @@ word_stops n (byte ∷ rest) = at (is_ascii_digit byte) (nat_eq byte empty_byte)
 bare_stops : (n : ℕ) (text : List ℕ) → StopsIn text (bare_word n text)
 bare_stops n text = mapped_stops_in text (with_coefficient 1) (word_at n text) (word_stops n text)
 
-numbered_stops : (field : FieldValue) (n : ℕ) (text after : List ℕ) → 0 < length text → IsEndOf after text → (b : Bool) → StopsIn text (numbered field n b text after)
+numbered_stops : (field : FieldValue) (n : ℕ) (text after : List ℕ) → 0 < length text → IsEndOf after text → (b : Bool) → StopsIn text (term_after_number field n b text after)
 numbered_stops field n text after some p false = (whole, some)
 numbered_stops field n text after some p true =
     let number : List ℕ → Term = with_coefficient (residue field (pos (digits_value 10 (run_at text)))) in
-    stops_later (past_spaces after) text (mapped number (word_at n (past_spaces after))) (end_trans (past_spaces after) after text (spaces_end after) p)
+    stops_later (past_spaces after) text (map_step number (word_at n (past_spaces after))) (end_trans (past_spaces after) after text (spaces_end after) p)
     (mapped_stops_in (past_spaces after) number (word_at n (past_spaces after)) (word_stops n (past_spaces after)))
 
 first_run_stops : (field : FieldValue) (n : ℕ) (text rest : List ℕ) → 0 < length text → IsEndOf rest text → StopsIn text (past_first_run field n text rest)
@@ -180,7 +180,7 @@ past_term_faults further ih t (byte ∷ rest) = at (sign_of byte)
 with_term_faults : (field : FieldValue) (further : Sign → List ℕ → Read) → FaultsWithin further → (sign : Sign) (text : List ℕ) (r : Step Term) → StopsIn text r → FaultsIn text (with_term field further sign r)
 with_term_faults field further ih sign text (Err e) p = p
 with_term_faults field further ih sign text (Ok r) p =
-    let t = signed field sign r.value in
+    let t = signed_term field sign r.value in
     faults_later (past_spaces r.left) text (past_term further t (past_spaces r.left)) (end_trans (past_spaces r.left) r.left text (spaces_end r.left) p) (past_term_faults further ih t (past_spaces r.left))
 
 terms_fault : (field : FieldValue) (n room : ℕ) → FaultsWithin (terms_at field n room)

@@ -1,5 +1,6 @@
 -- How an expression begins.
 use Rattle.std.proofs.Common.{◌≡◌, ◌<◌, ◌+◌, ℕ, nat_eq, Bool, true, false, ◌&&◌, List, [], Ok, Some, None, length, drop, get_or, sym, ◌∙◌, ap, arith}
+use Rattle.std.proofs.lemmas.List.{drop_all}
 use Rattle.nichols_field.specs.Field.{FieldValue}
 use Rattle.nichols_expression.specs.Bytes.{zero_digit}
 use Rattle.nichols_expression.specs.declared.TheConstants.{TERM_LIMIT}
@@ -8,10 +9,10 @@ use Rattle.nichols_expression.specs.declared.signs.Sign.TheVariants.{Positive}
 use Rattle.nichols_expression.specs.Reader.{fault, past_spaces, sign_of, terms_at, is_empty, signed_by, zero_or_terms, expression_at, read_terms}
 use Rattle.nichols_expression.specs.Steps.{starts_with}
 use Rattle.nichols_expression.specs.declared.faults.Cause.TheVariants.{Early}
-use Rattle.nichols_expression.proofs.Scanning.{byte_first, none_left}
+use Rattle.nichols_expression.proofs.Scanning.{byte_first}
 
 pub nothing_left : (text : List ℕ) (at : ℕ) → at ≡ length text → is_empty (drop at text) ≡ true
-nothing_left text at h = ap is_empty (none_left text at (omega (arith, h)))
+nothing_left text at h = ap is_empty (drop_all at text (omega (arith, h)))
 
 pub something_left : (text : List ℕ) (at : ℕ) → at < length text → is_empty (drop at text) ≡ false
 something_left text at h = ap is_empty (byte_first text at 0 h)
@@ -19,7 +20,7 @@ something_left text at h = ap is_empty (byte_first text at 0 h)
 pub entry_early : (k : FieldValue) (n : ℕ) (text : List ℕ) (start : ℕ) → drop start text ≡ past_spaces text → start ≡ length text → read_terms k n text ≡ fault Early (drop start text)
 unfolding read_terms
 entry_early k n text start gap last =
-    let none = none_left text start (omega (arith, last)) in
+    let none = drop_all start text (omega (arith, last)) in
     ap (expression_at k n) (sym gap ∙ none) ∙ ap (λ l. fault Early l) (sym none)
 
 begun : (k : FieldValue) (n : ℕ) (text : List ℕ) (start behind : ℕ) → drop start text ≡ past_spaces text → start < length text → drop behind text ≡ past_spaces (drop (start + 1) text) →

@@ -15,7 +15,7 @@ three =
     let field : FieldValue = record { size = 101 } in
     record { field = field; letters = 3; rack = []; cocycle = [] }
 
-abbrev term : ℕ → List ℕ → Term
+abbrev pub term : ℕ → List ℕ → Term
 term c w = record { word = w; coefficient = c }
 
 abbrev at_place : ℕ → Cause → Fault

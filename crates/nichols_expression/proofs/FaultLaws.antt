@@ -11,7 +11,7 @@ use Rattle.nichols_expression.specs.declared.faults.ExpressionFault.{ExpressionF
 use Rattle.nichols_expression.specs.declared.faults.ExpressionFault.TheVariants.{At, Memory}
 use Rattle.nichols_expression.specs.declared.faults.Cause.{Cause}
 use Rattle.nichols_expression.specs.declared.faults.Cause.TheVariants.{Early, Byte, Letter, LongNumber, LongWord, Terms, Surplus}
-use Rattle.nichols_expression.specs.Reader.{FaultAt, Read, Fault, past_run, past_spaces, read_terms, finished, expression_of}
+use Rattle.nichols_expression.specs.Reader.{FaultAt, Read, Fault, past_run, past_spaces, read_terms, value_or_fault, expression_of}
 use Rattle.nichols_expression.specs.Faults.{IsPlaceOf, IsPlacedIn, Settles}
 use Rattle.nichols_expression.specs.Steps.{IsFaultOf}
 use Rattle.nichols_expression.specs.Laws.{IsNoExpression, FaultsHavePlaces, FaultsAreFinal}
@@ -19,7 +19,7 @@ use Rattle.nichols_expression.proofs.Seen.{from_settling_byte, past_spaces-le, b
 use Rattle.nichols_expression.proofs.Twins.{IsStopped, FollowsFault, read_terms_follow}
 use Rattle.nichols_expression.proofs.Ends.{IsEndOf, end-le, end_is_drop, IsLeftAt, FaultsIn, read_terms_fault}
 use Rattle.nichols_expression.proofs.Values.{fault_read}
-use Rattle.nichols_expression.proofs.ReadingLaws.{grammar_is_accepted}
+use Rattle.nichols_expression.proofs.GrammarLaws.{grammar_is_accepted}
 
 -- the place of a byte by what is left there
 abbrev told : List ℕ → FaultAt → Fault
@@ -40,7 +40,7 @@ pub faults_have_places : FaultsHavePlaces
 unfolding expression_of
 faults_have_places braid text fault h = at (read_terms braid.field braid.letters text) (read_terms_fault braid.field braid.letters text) h
   where
-    at : (r : Read) → FaultsIn text r → finished braid.field text r ≡ Err fault → IsPlaceOf text fault.cause fault.place
+    at : (r : Read) → FaultsIn text r → value_or_fault braid.field text r ≡ Err fault → IsPlaceOf text fault.cause fault.place
     at (Ok f) is h = absurd cc
     at (Err e) is h =
         let same : told text e ≡ fault = cc in
@@ -123,7 +123,7 @@ settled_in_front text front back e split is settles =
 
 -- ---- such texts are no expressions
 
-stopped_has_no_value : (field : FieldValue) (text : List ℕ) (s : Read) (f : Combination) → IsStopped s → finished field text s ≡ Ok f → ⊥
+stopped_has_no_value : (field : FieldValue) (text : List ℕ) (s : Read) (f : Combination) → IsStopped s → value_or_fault field text s ≡ Ok f → ⊥
 stopped_has_no_value field text (Ok g) f is h = is
 stopped_has_no_value field text (Err e) f is h = absurd cc
 
@@ -133,7 +133,7 @@ front_is_final braid is_braid front back other text fault split h settles f k =
     at (read_terms braid.field braid.letters text) (read_terms_fault braid.field braid.letters text)
     (subst (λ t. FollowsFault back (read_terms braid.field braid.letters t) (read_terms braid.field braid.letters (front ++ other))) (sym split) (read_terms_follow braid.field braid.letters is_braid.most back other front)) h
   where
-    at : (r : Read) → FaultsIn text r → FollowsFault back r (read_terms braid.field braid.letters (front ++ other)) → finished braid.field text r ≡ Err fault → ⊥
+    at : (r : Read) → FaultsIn text r → FollowsFault back r (read_terms braid.field braid.letters (front ++ other)) → value_or_fault braid.field text r ≡ Err fault → ⊥
     at (Ok g) is follows h = absurd cc
     at (Err e) is follows h =
         let same : fault ≡ told text e = cc in

@@ -1,5 +1,6 @@
 -- Texts by their first bytes.
 use Rattle.std.proofs.Common.{◌≡◌, ℕ, ◌<◌, ◌≤◌, ◌^◌, Bool, true, false, ◌&&◌, ◌||◌, cond, List, [], ◌∷◌, ◌++◌, decimal, refl, sym, ◌∙◌, ap, subst, nat_eq, nat_le, bytes_eq, arith, append_assoc}
+use Rattle.std.proofs.lemmas.Bool.{and_from}
 use Rattle.std.specs.Char.{digit_value}
 use Rattle.std.proofs.lemmas.Str.Parse.{digit_from_value}
 use Rattle.std.specs.Str.Parse.{IsNumeral, AllDigits, digits_value}
@@ -98,21 +99,19 @@ pub record IsLetterRun (n : ℕ) (run : List ℕ) (a : ℕ) : Type 0 where
   pub value : digits_value 10 run ≡ a
   pub test : is_letter_run n run ≡ true
 
-pub all_true : (a b c : Bool) → a ≡ true → b ≡ true → c ≡ true → (a && b && c) ≡ true
-all_true a b c p q r = ap (λ x. x && b && c) p ∙ ap (λ x. x && c) q ∙ r
+-- what writes a number from 1 to n, as a number is printed, is a letter
+pub letter_test : (n : ℕ) (run : List ℕ) → 1 ≤ digits_value 10 run → digits_value 10 run ≤ n → run ≡ decimal (digits_value 10 run) → is_letter_run n run ≡ true
+letter_test n run low high same =
+    let least : nat_le 1 (digits_value 10 run) ≡ true = grind (arith, nat_tests, low) in
+    let most : nat_le (digits_value 10 run) n ≡ true = grind (arith, nat_tests, high) in
+    and_from (nat_le 1 (digits_value 10 run) && nat_le (digits_value 10 run) n) (bytes_eq run (decimal (digits_value 10 run)))
+    (and_from (nat_le 1 (digits_value 10 run)) (nat_le (digits_value 10 run) n) least most) ((bytes_eq-Decides run (decimal (digits_value 10 run))).1 same)
 
 pub letter_run : (n : ℕ) → n ≤ LETTER_LIMIT → (run : List ℕ) (a : ℕ) → IsLetterText n run a → IsLetterRun n run a
 letter_run n small _ a (letter h) =
     let small_letter : a < 2 ^ 64 = omega (arith, small, h.1) in
     let d = decimal_is_IsNumeral a small_letter in
-    let low : nat_le 1 (digits_value 10 (decimal a)) ≡ true = grind (arith, nat_tests, d.1, h.0) in
-    let high : nat_le (digits_value 10 (decimal a)) n ≡ true = grind (arith, nat_tests, d.1, h.1) in
-    record {
-      numeral = d.0;
-      value = d.1;
-      test = all_true (nat_le 1 (digits_value 10 (decimal a))) (nat_le (digits_value 10 (decimal a)) n) (bytes_eq (decimal a) (decimal (digits_value 10 (decimal a))))
-          low high ((bytes_eq-Decides (decimal a) (decimal (digits_value 10 (decimal a)))).1 (ap decimal (sym d.1)));
-    }
+    record { numeral = d.0; value = d.1; test = letter_test n (decimal a) (omega (arith, d.1, h.0)) (omega (arith, d.1, h.1)) (ap decimal (sym d.1)) }
 
 pub letters_begin : (n : ℕ) → n ≤ LETTER_LIMIT → (text w : List ℕ) → IsLetters n text w → (rest : List ℕ) → Begins is_ascii_digit (text ++ rest)
 letters_begin n small _ _ (last_letter {text} {a} l) rest = numeral_begins text rest (letter_run n small text a l).numeral

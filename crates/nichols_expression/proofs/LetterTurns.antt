@@ -3,28 +3,24 @@ use Rattle.std.proofs.Common.{◌≡◌, ◌<◌, ◌≤◌, ◌+◌, ◌-◌, �
 use Rattle.std.specs.Str.Parse.{digits_value}
 use Rattle.std.specs.Char.{is_ascii_digit}
 use Rattle.std.proofs.lemmas.Bool.{cases_lt}
-use Rattle.std.proofs.lemmas.List.{length-append}
+use Rattle.std.proofs.lemmas.List.{length-append, drop_all}
 use Rattle.nichols_tensor.specs.declared.TheConstants.{WORD_LIMIT}
 use Rattle.nichols_expression.specs.Bytes.{dot}
-use Rattle.nichols_expression.specs.Reader.{Step, got, fault, mapped, run_at, past_run, is_letter_run, at_dot, after_dot, past_letter, at_run, letters_at}
+use Rattle.nichols_expression.specs.Reader.{Step, got, fault, map_step, run_at, past_run, is_letter_run, at_dot, after_dot, past_letter, at_run, letters_at}
 use Rattle.nichols_expression.specs.Steps.{starts_with, starts_with_digit}
 use Rattle.nichols_expression.specs.declared.faults.Cause.TheVariants.{Early, Byte, Letter, LongWord}
 use Rattle.nichols_expression.proofs.Complete.{dot_goes_on, letter_ends}
-use Rattle.nichols_expression.proofs.Scanning.{byte_first, none_left, byte_at, byte_avoided, digit_begun}
+use Rattle.nichols_expression.proofs.Scanning.{byte_first, byte_at, byte_avoided, digit_begun}
 
 -- what a step answers, behind the letters so far
 abbrev pub behind : List ℕ → Step (List ℕ) → Step (List ℕ)
-behind sofar r = mapped (λ w. sofar ++ w) r
+behind sofar r = map_step (λ w. sofar ++ w) r
 
 -- what is left to be read behind the letters so far
 abbrev pub left_of : ℕ → List ℕ → List ℕ → Step (List ℕ)
 left_of n sofar text = behind sofar (letters_at n (WORD_LIMIT - length sofar) text)
 
-pub behind_none : (r : Step (List ℕ)) → behind [] r ≡ r
-behind_none (Ok r) = refl
-behind_none (Err e) = refl
-
-one_more_letter : (sofar : List ℕ) (a : ℕ) (r : Step (List ℕ)) → behind sofar (mapped (λ w. a ∷ w) r) ≡ behind (sofar ++ a ∷ []) r
+one_more_letter : (sofar : List ℕ) (a : ℕ) (r : Step (List ℕ)) → behind sofar (map_step (λ w. a ∷ w) r) ≡ behind (sofar ++ a ∷ []) r
 one_more_letter sofar a (Ok r) = ap (λ w. got w r.left) (sym (append_assoc sofar (a ∷ []) r.value))
 one_more_letter sofar a (Err e) = refl
 
@@ -88,7 +84,7 @@ pub turn-early : (n : ℕ) (text sofar : List ℕ) (at a end : ℕ) → LetterTa
     left_of n sofar (drop at text) ≡ fault Early (drop (end + 1) text)
 turn-early n text sofar at a end t h last =
     let further = letters_at n (WORD_LIMIT - length (sofar ++ a ∷ [])) in
-    let none = none_left text (end + 1) last in
+    let none = drop_all (end + 1) text last in
     dot_passed n text sofar at a end t h ∙ ap (λ l. behind (sofar ++ a ∷ []) (at_dot further l)) none ∙ ap (λ l. fault Early l) (sym none)
 
 pub turn-byte : (n : ℕ) (text sofar : List ℕ) (at a end : ℕ) → LetterTaken n text sofar at a end → starts_with dot (drop end text) ≡ true → end + 1 < length text → starts_with_digit (drop (end + 1) text) ≡ false →

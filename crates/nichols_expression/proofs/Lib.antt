@@ -7,7 +7,7 @@ pub mod Coefficients
 pub mod Seen
 pub mod Twins
 pub mod Ends
-pub mod ReadingLaws
+pub mod GrammarLaws
 pub mod FaultLaws
 pub mod PrintedLaws
 pub mod Numbers
@@ -19,5 +19,5 @@ pub mod TermSteps
 pub mod TermTurns
 pub mod Entry
 pub mod Values
-mod Examples
+pub mod Examples
 pub mod OnLiterals

@@ -1,18 +1,16 @@
 -- What runs of digits write, as numbers and as letters.
-use Rattle.std.proofs.Common.{◌≡◌, ◌≢◌, ℕ, zero, suc, ◌+◌, ◌-◌, ◌*◌, ◌<◌, ◌≤◌, ◌^◌, Bool, true, false, ◌&&◌, List, [], ◌∷◌, length, take, get_or, decimal, refl, sym, ◌∙◌, ap, nat_le, bytes_eq, arith}
+use Rattle.std.proofs.Common.{◌≡◌, ◌≢◌, ℕ, zero, suc, ◌+◌, ◌-◌, ◌*◌, ◌<◌, ◌≤◌, ◌^◌, Bool, true, false, List, [], ◌∷◌, length, take, get_or, decimal, refl, sym, ◌∙◌, ap, arith}
 use Rattle.std.specs.Char.{digit_value}
 use Rattle.std.specs.Str.Parse.{AllDigits, digits_value}
 use Rattle.std.proofs.lemmas.Str.{digit_value_digit}
 use Rattle.std.proofs.lemmas.Str.Parse.{digit_from_value, digits_value-take-le, digits_value_short, IsNumeralModel}
 use Rattle.std.proofs.lemmas.Int.Digits.{digits_value_more}
-use Rattle.std.proofs.lemmas.Bool.Decides.{nat_tests}
-use Rattle.std.proofs.lemmas.Slice.Eq.{bytes_eq-Decides}
 use Rattle.std.proofs.lemmas.Fmt.{decimal-digits_value, length-decimal-le, first_decimal}
 use Rattle.nichols_tensor.specs.declared.TheConstants.{LETTER_LIMIT}
 use Rattle.nichols_expression.specs.declared.TheConstants.{NUMBER_LIMIT}
 use Rattle.nichols_expression.specs.Reader.{is_letter_run}
-use Rattle.nichols_expression.proofs.Sound.{both}
-use Rattle.nichols_expression.proofs.Fronts.{all_true}
+use Rattle.nichols_expression.proofs.Sound.{letter_facts}
+use Rattle.nichols_expression.proofs.Fronts.{letter_test}
 
 digit_at : (ds : List ℕ) (i : ℕ) → AllDigits 10 ds → i < length ds → digit_value (get_or ds i 0) < 10
 digit_at [] i h k = absurd (omega (arith, k))
@@ -54,28 +52,12 @@ refuted n run denied = at (is_letter_run n run) refl
     at false e = refl
     at true e = absurd (denied e)
 
--- what holds of a run that is a letter
-record LetterFacts (n : ℕ) (run : List ℕ) : Type 0 where
-  low : 1 ≤ digits_value 10 run
-  high : digits_value 10 run ≤ n
-  same : run ≡ decimal (digits_value 10 run)
-
-letter_facts : (n : ℕ) (run : List ℕ) → is_letter_run n run ≡ true → LetterFacts n run
-letter_facts n run h =
-    let second = both (nat_le 1 (digits_value 10 run) && nat_le (digits_value 10 run) n) (bytes_eq run (decimal (digits_value 10 run))) h in
-    let first = both (nat_le 1 (digits_value 10 run)) (nat_le (digits_value 10 run) n) second.0 in
-    record {
-      low = grind (arith, nat_tests, first.0);
-      high = grind (arith, nat_tests, first.1);
-      same = (bytes_eq-Decides run (decimal (digits_value 10 run))).0 second.1;
-    }
-
-pub no_letter_long : (n : ℕ) (run : List ℕ) → n ≤ LETTER_LIMIT → 2 < length run → is_letter_run n run ≡ false
+pub no_letter_long : (n : ℕ) (run : List ℕ) → n ≤ LETTER_LIMIT → NUMBER_LIMIT < length run → is_letter_run n run ≡ false
 no_letter_long n run small long = refuted n run (λ e.
     let facts = letter_facts n run e in
-    let few : digits_value 10 run < 10 ^ 2 = omega (arith, facts.high, small) in
+    let few : digits_value 10 run < 10 ^ NUMBER_LIMIT = omega (arith, facts.high, small) in
     let fits : digits_value 10 run < 2 ^ 64 = omega (arith, facts.high, small) in
-    let short : length (decimal (digits_value 10 run)) ≤ 2 = length-decimal-le 2 (digits_value 10 run) (omega arith) few fits in
+    let short : length (decimal (digits_value 10 run)) ≤ NUMBER_LIMIT = length-decimal-le NUMBER_LIMIT (digits_value 10 run) (omega arith) few fits in
     absurd (omega (arith, long, short, ap length facts.same)))
 
 pub no_letter_zero : (n : ℕ) (run : List ℕ) → n ≤ LETTER_LIMIT → get_or run 0 0 ≡ 48 → is_letter_run n run ≡ false
@@ -90,26 +72,21 @@ no_letter_empty n run e = ap (is_letter_run n) e
 pub no_letter_great : (n : ℕ) (run : List ℕ) → n < digits_value 10 run → is_letter_run n run ≡ false
 no_letter_great n run great = refuted n run (λ e. absurd (omega (arith, (letter_facts n run e).high, great)))
 
-positive_run : (run : List ℕ) → AllDigits 10 run → 0 < length run → length run ≤ 2 → get_or run 0 0 ≢ 48 → 1 ≤ digits_value 10 run
-positive_run [] h some short first = absurd (omega (arith, some))
-positive_run (d ∷ []) h some short first =
+-- a run without a leading zero isn't 0
+positive_run : (run : List ℕ) → AllDigits 10 run → 0 < length run → get_or run 0 0 ≢ 48 → 1 ≤ digits_value 10 run
+positive_run [] h some first = absurd (omega (arith, some))
+positive_run (d ∷ run) h some first =
     let range = digit_from_value d h.0 in
     let worth = digit_value_digit d range in
-    omega (arith, worth, range.0, first)
-positive_run (d ∷ c ∷ []) h some short first =
-    let range = digit_from_value d h.0 in
-    let worth = digit_value_digit d range in
-    omega (arith, worth, range.0, first)
-positive_run (d ∷ c ∷ b ∷ run) h some short first = absurd (omega (arith, short))
+    let here : 1 ≤ digits_value 10 (d ∷ []) = omega (arith, worth, range.0, first) in
+    let front : digits_value 10 (d ∷ []) ≤ digits_value 10 (d ∷ run) = digits_value-take-le 10 (d ∷ run) 1 (omega arith) in
+    omega (arith, here, front)
 
-pub letter_found : (n : ℕ) (run : List ℕ) → AllDigits 10 run → 0 < length run → length run ≤ 2 → get_or run 0 0 ≢ 48 → digits_value 10 run ≤ n → is_letter_run n run ≡ true
+pub letter_found : (n : ℕ) (run : List ℕ) → AllDigits 10 run → 0 < length run → length run ≤ NUMBER_LIMIT → get_or run 0 0 ≢ 48 → digits_value 10 run ≤ n → is_letter_run n run ≡ true
 letter_found n run h some short first high =
-    let low : nat_le 1 (digits_value 10 run) ≡ true = grind (arith, nat_tests, positive_run run h some short first) in
-    let top : nat_le (digits_value 10 run) n ≡ true = grind (arith, nat_tests, high) in
-    let fits : digits_value 10 run < 2 ^ 64 = omega (arith, small_number run h 2 short) in
+    let fits : digits_value 10 run < 2 ^ 64 = omega (arith, small_number run h NUMBER_LIMIT short) in
     let same : decimal (digits_value 10 run) ≡ run = decimal-digits_value own run h some (λ e. absurd (first e)) fits in
-    all_true (nat_le 1 (digits_value 10 run)) (nat_le (digits_value 10 run) n) (bytes_eq run (decimal (digits_value 10 run))) low top
-    ((bytes_eq-Decides run (decimal (digits_value 10 run))).1 (sym same))
+    letter_test n run (positive_run run h some first) high (sym same)
   where
     own : IsNumeralModel (AllDigits 10) (digits_value 10)
     own = record { to = λ ds h. h; from = λ ds h. h; same = λ ds h. refl }

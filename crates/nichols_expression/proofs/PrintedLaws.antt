@@ -1,11 +1,9 @@
 -- Printed combinations are expressions.
-use Rattle.std.proofs.Common.{◌≡◌, ℕ, ◌<◌, ◌≤◌, ◌^◌, ◌%◌, List, [], ◌∷◌, ◌++◌, length, decimal, codes, flat_map, sym, ◌∙◌, ap, subst, arith, append_assoc, append-nil}
-use Rattle.std.proofs.Math.Nat.{mod-eq_of_lt}
+use Rattle.std.proofs.Common.{ℕ, ◌<◌, ◌≤◌, ◌^◌, pos, List, [], ◌∷◌, ◌++◌, length, decimal, codes, flat_map, sym, ◌∙◌, ap, subst, arith, append_assoc, append-nil}
 use Rattle.std.proofs.lemmas.Fmt.{decimal_is_IsNumeral, length-decimal-le}
-use Rattle.std.specs.Str.Parse.{digits_value}
 use Rattle.std.specs.List.{AllByRecursion}
 use Rattle.nichols_field.specs.Field.{FieldValue, IsField, IsElement, residue}
-use Rattle.nichols_field.proofs.Table.{modulus_bounds}
+use Rattle.nichols_field.proofs.Elements.{element_bound, residue_of_element}
 use Rattle.nichols_braid.specs.Braid.{BraidValue, IsBraid}
 use Rattle.nichols_tensor.specs.Combination.{Term, Combination, AllElements}
 use Rattle.nichols_tensor.specs.Words.{IsLetterOf, IsWordOver, IsOver}
@@ -14,8 +12,8 @@ use Rattle.nichols_expression.specs.Bytes.{space, star, plus_byte}
 use Rattle.nichols_expression.specs.declared.signs.Sign.TheVariants.{Positive}
 use Rattle.nichols_expression.specs.Grammar.{no_spaces, one_more, plus_sign, letter, IsLetters, last_letter, next_letter, IsWordText, empty_word, letters, IsCoefficient, number, IsTermText, multiple, IsTerms, last_term, next_term, unsigned, IsExpression, nothing, terms}
 use Rattle.nichols_expression.specs.Printed.{word_text, term_text, form_text}
-use Rattle.nichols_expression.specs.Laws.{IsExpressionOf, IsPrintable, PrintedIsReadAgain}
-use Rattle.nichols_expression.proofs.ReadingLaws.{grammar_is_accepted}
+use Rattle.nichols_expression.specs.Laws.{IsExpressionOf, IsPrintable, PrintedCombinationsAreReadAgain}
+use Rattle.nichols_expression.proofs.GrammarLaws.{grammar_is_accepted}
 use Rattle.nichols_tensor.proofs.InOrder.{in_order_itself}
 
 -- ---- words
@@ -35,14 +33,11 @@ word_printed n (a ∷ w) h short = letters (letters_printed n a w h.0 h.1) short
 -- ---- terms
 
 coefficient_printed : (k : FieldValue) → IsField k → (c : ℕ) → IsElement k c → IsCoefficient k (decimal c) c
-unfolding IsField IsElement residue
 coefficient_printed k is c e =
-    let bounds = modulus_bounds k.size is in
-    let small : c < 2 ^ 64 = omega (arith, bounds.1, e) in
-    let few : c < 10 ^ 9 = omega (arith, bounds.1, e) in
+    let few : c < 10 ^ 9 = omega (arith, element_bound k c is e) in
+    let small : c < 2 ^ 64 = omega (arith, few) in
     let d = decimal_is_IsNumeral c small in
-    let same : digits_value 10 (decimal c) % k.size ≡ c = ap (λ v. v % k.size) d.1 ∙ mod-eq_of_lt e in
-    subst (IsCoefficient k (decimal c)) same (number d.0 (length-decimal-le 9 c (omega arith) few small))
+    subst (IsCoefficient k (decimal c)) (ap (λ v. residue k (pos v)) d.1 ∙ residue_of_element k c e) (number d.0 (length-decimal-le 9 c (omega arith) few small))
 
 term_printed : (k : FieldValue) → IsField k → (n : ℕ) (t : Term) → IsElement k t.coefficient → IsWordOver n t.word → length t.word ≤ WORD_LIMIT → IsTermText k n (term_text t) t
 unfolding term_text
@@ -69,7 +64,7 @@ form_printed braid is (t ∷ f) h =
     subst (λ l. IsExpression braid.field braid.letters l (t ∷ f)) (append-nil (term_text t ++ joined_terms f))
     (terms no_spaces (unsigned (terms_printed braid.field is.field braid.letters t f h.elements h.letters h.short)) h.few no_spaces)
 
-pub printed_is_read_again : PrintedIsReadAgain
-printed_is_read_again braid is f h =
+pub printed_combinations_are_read_again : PrintedCombinationsAreReadAgain
+printed_combinations_are_read_again braid is f h =
     let expression : IsExpressionOf braid (form_text f) f = (f, form_printed braid is f h, sym (in_order_itself braid.field is.field f h.elements h.ordered)) in
     (expression, (grammar_is_accepted braid is (form_text f) f).1 expression)

@@ -1,10 +1,9 @@
 -- One byte further in runs of spaces and digits.
-use Rattle.std.proofs.Common.{◌≡◌, ◌≢◌, ℕ, suc, ◌+◌, ◌-◌, ◌<◌, ◌≤◌, true, false, cond, List, [], ◌∷◌, ◌++◌, length, get_or, take, drop, refl, sym, ◌∙◌, ap, subst, nat_eq, arith}
-use Rattle.std.proofs.Math.Seq.{drop-cons}
+use Rattle.std.proofs.Common.{◌≡◌, ◌≢◌, ℕ, suc, ◌+◌, ◌-◌, ◌<◌, ◌≤◌, true, false, cond, List, [], ◌∷◌, ◌++◌, length, get_or, take, drop, sym, ◌∙◌, ap, nat_eq, arith}
+use Rattle.std.proofs.Math.Seq.{drop-cons, take-append_seam}
 use Rattle.std.proofs.lemmas.Bool.Decides.{nat_tests, Decides-eqb}
-use Rattle.std.proofs.lemmas.Grind.{common_steps}
 use Rattle.std.specs.Char.{is_ascii_digit}
-use Rattle.std.proofs.lemmas.List.{length-append, length-drop}
+use Rattle.std.proofs.lemmas.List.{length-append, length-drop, drop_all}
 use Rattle.nichols_expression.proofs.Runs.{run_split}
 use Rattle.nichols_expression.specs.Bytes.{space}
 use Rattle.nichols_expression.specs.Reader.{run_at, past_run, past_spaces}
@@ -16,13 +15,6 @@ byte_first text at d h = drop-cons text at d h ∙ ap (λ n. get_or text at d �
   where
     next : suc at ≡ at + 1
     next = omega arith
-
-pub none_left : (text : List ℕ) (at : ℕ) → length text ≤ at → drop at text ≡ []
-none_left text at h = at_end (drop at text) (grind (arith, common_steps, h))
-  where
-    at_end : (l : List ℕ) → length l ≡ 0 → l ≡ []
-    at_end [] e = refl
-    at_end (x ∷ l) e = absurd (omega (arith, e))
 
 pub space_passed : (text : List ℕ) (at d : ℕ) → at < length text → get_or text at d ≡ space → past_spaces (drop (at + 1) text) ≡ past_spaces (drop at text)
 unfolding past_spaces
@@ -37,7 +29,7 @@ other_stays text at d h e =
 
 pub end_of_spaces : (text : List ℕ) (at : ℕ) → length text ≤ at → drop at text ≡ past_spaces (drop at text)
 unfolding past_spaces
-end_of_spaces text at h = none_left text at h ∙ sym (ap past_spaces (none_left text at h))
+end_of_spaces text at h = drop_all at text h ∙ sym (ap past_spaces (drop_all at text h))
 
 -- ---- digits
 
@@ -53,14 +45,7 @@ no_digit_stays text at d h e =
 
 pub end_of_run : (text : List ℕ) (at : ℕ) → length text ≤ at → drop at text ≡ past_run (drop at text)
 unfolding past_run
-end_of_run text at h = none_left text at h ∙ sym (ap past_run (none_left text at h))
-
-take_front : (a b : List ℕ) (n : ℕ) → length a ≡ n → take n (a ++ b) ≡ a
-take_front a b n e = subst (λ k. take k (a ++ b) ≡ a) e (front a)
-  where
-    front : (a : List ℕ) → take (length a) (a ++ b) ≡ a
-    front [] = refl
-    front (x ∷ a) = ap (λ l. x ∷ l) (front a)
+end_of_run text at h = drop_all at text h ∙ sym (ap past_run (drop_all at text h))
 
 -- the run, by where it ends
 pub run_taken : (text : List ℕ) (from end : ℕ) → from ≤ end → end ≤ length text → drop end text ≡ past_run (drop from text) → take (end - from) (drop from text) ≡ run_at (drop from text)
@@ -69,7 +54,7 @@ run_taken text from end low high left =
     let whole : length (drop from text) ≡ length (run_at (drop from text)) + length (past_run (drop from text)) = ap length split ∙ length-append (run_at (drop from text)) (past_run (drop from text)) in
     let there : length (past_run (drop from text)) ≡ length text - end = ap length (sym left) ∙ length-drop end text in
     let size : length (run_at (drop from text)) ≡ end - from = omega (arith, whole, there, length-drop from text, low, high) in
-    ap (take (end - from)) split ∙ take_front (run_at (drop from text)) (past_run (drop from text)) (end - from) size
+    ap (take (end - from)) split ∙ ap (λ n. take n (run_at (drop from text) ++ past_run (drop from text))) (sym size) ∙ take-append_seam (run_at (drop from text)) (past_run (drop from text))
 
 -- ---- single bytes
 
@@ -100,7 +85,3 @@ byte_avoided byte (b ∷ l) h = h
 pub digit_begun : (l : List ℕ) → starts_with_digit l ≡ true → Begins is_ascii_digit l
 digit_begun [] h = let c : true ≡ false = sym h in absurd cc
 digit_begun (b ∷ l) h = h
-
-pub digit_avoided : (l : List ℕ) → starts_with_digit l ≡ false → Avoids is_ascii_digit l
-digit_avoided [] h = tt
-digit_avoided (b ∷ l) h = h

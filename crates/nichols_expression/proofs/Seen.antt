@@ -8,12 +8,12 @@ use Rattle.nichols_field.specs.Field.{FieldValue, residue}
 use Rattle.nichols_tensor.specs.Combination.{Term}
 use Rattle.nichols_tensor.specs.declared.TheConstants.{WORD_LIMIT}
 use Rattle.nichols_expression.specs.declared.TheConstants.{NUMBER_LIMIT, TERM_LIMIT}
-use Rattle.nichols_expression.specs.Bytes.{space, star, dot, zero_digit, empty_byte, signed}
+use Rattle.nichols_expression.specs.Bytes.{space, star, dot, zero_digit, empty_byte, signed_term}
 use Rattle.nichols_expression.specs.declared.signs.Sign.{Sign}
 use Rattle.nichols_expression.specs.declared.signs.Sign.TheVariants.{Positive}
 use Rattle.nichols_expression.specs.declared.faults.Cause.{Cause}
 use Rattle.nichols_expression.specs.declared.faults.Cause.TheVariants.{Early, Byte, Letter, LongNumber, LongWord, Terms, Surplus}
-use Rattle.nichols_expression.specs.Reader.{Step, mapped, fault, run_at, past_run, past_spaces, is_letter_run, at_dot, after_dot, after_letter, past_letter, at_run, letters_at, word_by, word_at, with_coefficient, bare_word, numbered, by_star, past_first_run, term_by, term_at, sign_of, Read, put_first, after_term, past_term, with_term, terms_at, is_empty, signed_by, zero_or_terms, expression_at}
+use Rattle.nichols_expression.specs.Reader.{Step, map_step, fault, run_at, past_run, past_spaces, is_letter_run, at_dot, after_dot, after_letter, past_letter, at_run, letters_at, word_by, word_at, with_coefficient, bare_word, term_after_number, by_star, past_first_run, term_by, term_at, sign_of, Read, put_first, after_term, past_term, with_term, terms_at, is_empty, signed_by, zero_or_terms, expression_at}
 use Rattle.nichols_expression.proofs.Runs.{run_split}
 
 -- what is left at the byte that settles a fault: its own, for a run that is no letter the first behind the run and spaces, for too long a number the last digit that makes it so
@@ -65,7 +65,7 @@ past_dot byte rest h = subst (λ b. past_spaces (b ∷ rest) ≡ b ∷ rest) (sy
 
 -- ---- letters
 
-pub mapped_ahead : {X Y : Type 0} (f : X → Y) (r : Step X) → ahead (mapped f r) ≡ ahead r
+pub mapped_ahead : {X Y : Type 0} (f : X → Y) (r : Step X) → ahead (map_step f r) ≡ ahead r
 mapped_ahead f (Ok r) = refl
 mapped_ahead f (Err e) = refl
 
@@ -146,7 +146,7 @@ behind_long_run text h =
     let split : length text ≡ length (run_at text ++ past_run text) = ap length (run_split text) in
     omega (arith, split, length-append (run_at text) (past_run text), long_run text h, past_spaces-le (past_run text))
 
-numbered_ahead : (field : FieldValue) (n : ℕ) (text after : List ℕ) (byte : ℕ) → past_spaces (past_run text) ≡ byte ∷ after → ahead (numbered field n true text after) ≤ length (past_spaces (past_run text))
+numbered_ahead : (field : FieldValue) (n : ℕ) (text after : List ℕ) (byte : ℕ) → past_spaces (past_run text) ≡ byte ∷ after → ahead (term_after_number field n true text after) ≤ length (past_spaces (past_run text))
 numbered_ahead field n text after byte h =
     let kept : length (past_spaces (past_run text)) ≡ suc (length after) = ap length h in
     omega (arith, kept, mapped_ahead (with_coefficient (residue field (pos (digits_value 10 (run_at text))))) (word_at n (past_spaces after)), word_ahead n (past_spaces after), past_spaces-le after)
@@ -157,7 +157,7 @@ short_run_ahead field n text [] short h word = omega (arith, bare_ahead n text, 
 short_run_ahead field n text (byte ∷ after) short h word = at (nat_eq byte star)
   where
     at : (b : Bool) → ahead (by_star field n b text after) ≤ length (past_spaces (past_run text))
-    at true = subst (λ b. ahead (numbered field n b text after) ≤ length (past_spaces (past_run text))) (sym short) (numbered_ahead field n text after byte h)
+    at true = subst (λ b. ahead (term_after_number field n b text after) ≤ length (past_spaces (past_run text))) (sym short) (numbered_ahead field n text after byte h)
     at false = omega (arith, bare_ahead n text, word)
 
 long_run_ahead : (field : FieldValue) (n : ℕ) (text rest : List ℕ) → is_short_run text ≡ false → ahead (word_at n text) ≤ length (past_spaces (past_run text)) → ahead (past_first_run field n text rest) + NUMBER_LIMIT ≤ length text
@@ -165,7 +165,7 @@ long_run_ahead field n text [] long word = omega (arith, bare_ahead n text, word
 long_run_ahead field n text (byte ∷ after) long word = at (nat_eq byte star)
   where
     at : (b : Bool) → ahead (by_star field n b text after) + NUMBER_LIMIT ≤ length text
-    at true = subst (λ b. ahead (numbered field n b text after) + NUMBER_LIMIT ≤ length text) (sym long) (omega (arith, length-drop NUMBER_LIMIT text, behind_long_run text long))
+    at true = subst (λ b. ahead (term_after_number field n b text after) + NUMBER_LIMIT ≤ length text) (sym long) (omega (arith, length-drop NUMBER_LIMIT text, behind_long_run text long))
     at false = omega (arith, bare_ahead n text, word, behind_long_run text long)
 
 -- a term that begins with a run, by the byte behind it and spaces
@@ -214,7 +214,7 @@ past_term_ahead further ih t (byte ∷ rest) = at (sign_of byte)
     at (Some sign) = omega (arith, put_ahead t (further sign (past_spaces rest)), ih sign (past_spaces rest), past_spaces-le rest)
 
 pub with_term_ahead : (field : FieldValue) (further : Sign → List ℕ → Read) → TermsLookWithin further → (sign : Sign) (r : Step Term) → ahead_of_fault (with_term field further sign r) ≤ ahead r
-with_term_ahead field further ih sign (Ok r) = past_term_ahead further ih (signed field sign r.value) (past_spaces r.left)
+with_term_ahead field further ih sign (Ok r) = past_term_ahead further ih (signed_term field sign r.value) (past_spaces r.left)
 with_term_ahead field further ih sign (Err e) = omega arith
 
 pub terms_ahead : (field : FieldValue) (n room : ℕ) → TermsLookWithin (terms_at field n room)

@@ -1,5 +1,6 @@
 -- What is read is in the grammar.
 use Rattle.std.proofs.Common.{◌≡◌, ℕ, zero, suc, ◌<◌, ◌≤◌, pos, Bool, true, false, ◌&&◌, cond, List, [], ◌∷◌, ◌++◌, length, decimal, refl, sym, ◌∙◌, ap, subst, nat_eq, nat_le, bytes_eq, arith, Option, Some, None, Ok, Err, append_assoc, append-nil}
+use Rattle.std.proofs.lemmas.Bool.{and_parts}
 use Rattle.std.specs.Str.Parse.{IsNumeral, digits_value}
 use Rattle.std.proofs.lemmas.Bool.Decides.{nat_tests, Decides-eqb}
 use Rattle.std.proofs.lemmas.Slice.Eq.{bytes_eq-Decides}
@@ -7,12 +8,12 @@ use Rattle.nichols_field.specs.Field.{FieldValue, residue}
 use Rattle.nichols_tensor.specs.Combination.{Term, Combination}
 use Rattle.nichols_tensor.specs.declared.TheConstants.{WORD_LIMIT}
 use Rattle.nichols_expression.specs.declared.TheConstants.{NUMBER_LIMIT, TERM_LIMIT}
-use Rattle.nichols_expression.specs.Bytes.{star, plus_byte, minus_byte, dot, zero_digit, empty_byte, signed}
+use Rattle.nichols_expression.specs.Bytes.{star, plus_byte, minus_byte, dot, zero_digit, empty_byte, signed_term}
 use Rattle.nichols_expression.specs.declared.signs.Sign.{Sign}
 use Rattle.nichols_expression.specs.declared.signs.Sign.TheVariants.{Positive, Reversed}
 use Rattle.nichols_expression.specs.Grammar.{IsSpaces, IsSign, plus_sign, minus_sign, IsLetterText, letter, IsLetters, last_letter, next_letter, IsWordText, empty_word, letters, number, IsTermText, alone, multiple, IsTerms, last_term, next_term, IsSignedTerms, unsigned, after_sign, IsExpression, nothing, terms}
 use Rattle.std.specs.Char.{is_ascii_digit}
-use Rattle.nichols_expression.specs.Reader.{Step, mapped, fault, run_at, past_run, past_spaces, is_letter_run, at_dot, after_dot, after_letter, past_letter, at_run, letters_at, word_by, word_at, with_coefficient, bare_word, numbered, by_star, past_first_run, term_by, term_at, sign_of, Read, put_first, after_term, past_term, with_term, terms_at, is_empty, signed_by, zero_or_terms, expression_at, read_terms}
+use Rattle.nichols_expression.specs.Reader.{Step, map_step, fault, run_at, past_run, past_spaces, is_letter_run, at_dot, after_dot, after_letter, past_letter, at_run, letters_at, word_by, word_at, with_coefficient, bare_word, term_after_number, by_star, past_first_run, term_by, term_at, sign_of, Read, put_first, after_term, past_term, with_term, terms_at, is_empty, signed_by, zero_or_terms, expression_at, read_terms}
 use Rattle.nichols_expression.specs.declared.faults.Cause.TheVariants.{LongWord}
 use Rattle.nichols_expression.proofs.Runs.{run_split, run_is_digits, run_begins, SplitsSpaces, spaces_split}
 
@@ -22,7 +23,7 @@ Reads P text (Ok r) = (front : List ℕ) × (text ≡ front ++ r.left) × P fron
 Reads P text (Err e) = Unit {0}
 
 pub reads_mapped : {X Y : Type 0} (P : List ℕ → X → Type 0) (Q : List ℕ → Y → Type 0) (f : X → Y) (wrap : List ℕ → List ℕ) (whole text : List ℕ) (r : Step X) →
-    ((front left : List ℕ) → text ≡ front ++ left → whole ≡ wrap front ++ left) → ((front : List ℕ) (x : X) → P front x → Q (wrap front) (f x)) → Reads P text r → Reads Q whole (mapped f r)
+    ((front left : List ℕ) → text ≡ front ++ left → whole ≡ wrap front ++ left) → ((front : List ℕ) (x : X) → P front x → Q (wrap front) (f x)) → Reads P text r → Reads Q whole (map_step f r)
 reads_mapped P Q f wrap whole text (Ok r) split make h = (wrap h.0, split h.0 r.left h.1, make h.0 r.value h.2)
 reads_mapped P Q f wrap whole text (Err e) split make h = tt
 
@@ -32,17 +33,26 @@ reads_weaker P Q text (Err e) weaken h = tt
 
 -- ---- letters
 
-pub both : (a b : Bool) → (a && b) ≡ true → (a ≡ true) × (b ≡ true)
-both true b h = (refl, h)
-both false b h = let c : true ≡ false = sym h in absurd cc
+-- what holds of a run that is a letter
+pub record LetterFacts (n : ℕ) (run : List ℕ) : Type 0 where
+  pub low : 1 ≤ digits_value 10 run
+  pub high : digits_value 10 run ≤ n
+  pub same : run ≡ decimal (digits_value 10 run)
+
+pub letter_facts : (n : ℕ) (run : List ℕ) → is_letter_run n run ≡ true → LetterFacts n run
+letter_facts n run h =
+    let second = and_parts (nat_le 1 (digits_value 10 run) && nat_le (digits_value 10 run) n) (bytes_eq run (decimal (digits_value 10 run))) h in
+    let first = and_parts (nat_le 1 (digits_value 10 run)) (nat_le (digits_value 10 run) n) second.0 in
+    record {
+      low = grind (arith, nat_tests, first.0);
+      high = grind (arith, nat_tests, first.1);
+      same = (bytes_eq-Decides run (decimal (digits_value 10 run))).0 second.1;
+    }
 
 pub letter_by_test : (n : ℕ) (run : List ℕ) → is_letter_run n run ≡ true → IsLetterText n run (digits_value 10 run)
 letter_by_test n run h =
-    let second = both (nat_le 1 (digits_value 10 run) && nat_le (digits_value 10 run) n) (bytes_eq run (decimal (digits_value 10 run))) h in
-    let first = both (nat_le 1 (digits_value 10 run)) (nat_le (digits_value 10 run) n) second.0 in
-    let low : 1 ≤ digits_value 10 run = grind (arith, nat_tests, first.0) in
-    let high : digits_value 10 run ≤ n = grind (arith, nat_tests, first.1) in
-    subst (λ t. IsLetterText n t (digits_value 10 run)) (sym ((bytes_eq-Decides run (decimal (digits_value 10 run))).0 second.1)) (letter (low, high))
+    let facts = letter_facts n run h in
+    subst (λ t. IsLetterText n t (digits_value 10 run)) (sym facts.same) (letter (facts.low, facts.high))
 
 -- at most so many letters
 abbrev pub IsLettersWithin : ℕ → ℕ → List ℕ → List ℕ → Type 0
@@ -52,11 +62,11 @@ one_read : (n room : ℕ) (run rest : List ℕ) (a : ℕ) → IsLetterText n run
 one_read n room run rest a l = (run, refl, (last_letter l, omega arith))
 
 at_dot_sound : (n room : ℕ) (further : List ℕ → Step (List ℕ)) → ((t : List ℕ) → Reads (IsLettersWithin n room) t (further t)) → (run rest : List ℕ) (a : ℕ) → IsLetterText n run a →
-    Reads (IsLettersWithin n (suc room)) (run ++ dot ∷ rest) (mapped (λ w. a ∷ w) (at_dot further rest))
+    Reads (IsLettersWithin n (suc room)) (run ++ dot ∷ rest) (map_step (λ w. a ∷ w) (at_dot further rest))
 at_dot_sound n room further ih run [] a l = tt
 at_dot_sound n room further ih run (c ∷ rest) a l = at (is_ascii_digit c)
   where
-    at : (b : Bool) → Reads (IsLettersWithin n (suc room)) (run ++ dot ∷ c ∷ rest) (mapped (λ w. a ∷ w) (after_dot further b c rest))
+    at : (b : Bool) → Reads (IsLettersWithin n (suc room)) (run ++ dot ∷ c ∷ rest) (map_step (λ w. a ∷ w) (after_dot further b c rest))
     at true =
         reads_mapped (IsLettersWithin n room) (IsLettersWithin n (suc room)) (λ w. a ∷ w) (λ front. run ++ dot ∷ front) (run ++ dot ∷ c ∷ rest) (c ∷ rest) (further (c ∷ rest))
         (λ front left e. ap (λ t. run ++ dot ∷ t) e ∙ sym (append_assoc run (dot ∷ front) left)) (λ front w p. (next_letter l p.0, omega (arith, p.1))) (ih (c ∷ rest))
@@ -70,7 +80,7 @@ past_letter_sound n room further ih run (byte ∷ rest) a l = at (nat_eq byte do
     at : (b : Bool) → nat_eq byte dot ≡ b → Reads (IsLettersWithin n (suc room)) (run ++ byte ∷ rest) (after_letter further a b byte rest)
     at false e = one_read n room run (byte ∷ rest) a l
     at true e =
-        subst (λ c. Reads (IsLettersWithin n (suc room)) (run ++ c ∷ rest) (mapped (λ w. a ∷ w) (at_dot further rest)))
+        subst (λ c. Reads (IsLettersWithin n (suc room)) (run ++ c ∷ rest) (map_step (λ w. a ∷ w) (at_dot further rest)))
         (sym ((Decides-eqb byte dot).0 e)) (at_dot_sound n room further ih run rest a l)
 
 pub letters_sound : (n room : ℕ) (text : List ℕ) → Reads (IsLettersWithin n room) text (letters_at n room text)
@@ -111,7 +121,7 @@ joined : (a b c d e : List ℕ) (x : ℕ) → a ++ (b ++ x ∷ (c ++ (d ++ e))) 
 joined a b c d e x = sym (append_assoc a b (x ∷ (c ++ (d ++ e)))) ∙ sym (append_assoc (a ++ b) (x ∷ c) (d ++ e)) ∙ sym (append_assoc (a ++ b ++ x ∷ c) d e)
 
 numbered_sound : (field : FieldValue) (n : ℕ) (text after : List ℕ) → IsNumeral 10 (run_at text) → SplitsSpaces (past_run text) (star ∷ after) → (b : Bool) → nat_le (length (run_at text)) NUMBER_LIMIT ≡ b →
-    Reads (IsTermText field n) text (numbered field n b text after)
+    Reads (IsTermText field n) text (term_after_number field n b text after)
 numbered_sound field n text after digits gap false e = tt
 numbered_sound field n text after digits gap true e =
     let second = spaces_split after in
@@ -175,19 +185,19 @@ abbrev pub IsTermsWithin : FieldValue → ℕ → ℕ → Sign → List ℕ → 
 IsTermsWithin field n room sign text f = IsTerms field n sign text f × (length f ≤ room)
 
 section_ends : (field : FieldValue) (n room : ℕ) (sign : Sign) (front before : List ℕ) (t : Term) → IsTermText field n front t → IsSpaces before →
-    EndsIn (IsTermsWithin field n (suc room) sign) (front ++ (before ++ [])) (Ok (signed field sign t ∷ []))
+    EndsIn (IsTermsWithin field n (suc room) sign) (front ++ (before ++ [])) (Ok (signed_term field sign t ∷ []))
 section_ends field n room sign front before t p gap = (front, before ++ [], refl, (last_term p, omega arith), subst IsSpaces (sym (append-nil before)) gap)
 
 past_term_sound : (field : FieldValue) (n room : ℕ) (further : Sign → List ℕ → Read) → ((s : Sign) (t : List ℕ) → EndsIn (IsTermsWithin field n room s) t (further s t)) →
-    (sign : Sign) (front before rest : List ℕ) (t : Term) → IsTermText field n front t → IsSpaces before → EndsIn (IsTermsWithin field n (suc room) sign) (front ++ (before ++ rest)) (past_term further (signed field sign t) rest)
+    (sign : Sign) (front before rest : List ℕ) (t : Term) → IsTermText field n front t → IsSpaces before → EndsIn (IsTermsWithin field n (suc room) sign) (front ++ (before ++ rest)) (past_term further (signed_term field sign t) rest)
 past_term_sound field n room further ih sign front before [] t p gap = section_ends field n room sign front before t p gap
 past_term_sound field n room further ih sign front before (byte ∷ rest) t p gap = at (sign_of byte) (sign_told byte)
   where
-    at : (o : Option Sign) → TellsSign byte o → EndsIn (IsTermsWithin field n (suc room) sign) (front ++ (before ++ byte ∷ rest)) (after_term further (signed field sign t) o byte rest)
+    at : (o : Option Sign) → TellsSign byte o → EndsIn (IsTermsWithin field n (suc room) sign) (front ++ (before ++ byte ∷ rest)) (after_term further (signed_term field sign t) o byte rest)
     at None told = tt
     at (Some next) told =
         let second = spaces_split rest in
-        ends_put (IsTermsWithin field n room next) (IsTermsWithin field n (suc room) sign) (signed field sign t) (λ more. front ++ before ++ byte ∷ second.0 ++ more)
+        ends_put (IsTermsWithin field n room next) (IsTermsWithin field n (suc room) sign) (signed_term field sign t) (λ more. front ++ before ++ byte ∷ second.0 ++ more)
         (front ++ (before ++ byte ∷ rest)) (past_spaces rest) (further next (past_spaces rest))
         (λ more back e. ap (λ l. front ++ (before ++ byte ∷ l)) (second.1 ∙ ap (λ l. second.0 ++ l) e) ∙ joined front before second.0 more back byte)
         (λ more f q. (next_term p gap told second.2 q.0, omega (arith, q.1))) (ih next (past_spaces rest))
@@ -197,7 +207,7 @@ with_term_sound : (field : FieldValue) (n room : ℕ) (further : Sign → List �
 with_term_sound field n room further ih sign text (Err e) h = tt
 with_term_sound field n room further ih sign text (Ok r) h =
     let gap = spaces_split r.left in
-    subst (λ t. EndsIn (IsTermsWithin field n (suc room) sign) t (past_term further (signed field sign r.value) (past_spaces r.left))) (sym (h.1 ∙ ap (λ t. h.0 ++ t) gap.1))
+    subst (λ t. EndsIn (IsTermsWithin field n (suc room) sign) t (past_term further (signed_term field sign r.value) (past_spaces r.left))) (sym (h.1 ∙ ap (λ t. h.0 ++ t) gap.1))
     (past_term_sound field n room further ih sign h.0 gap.0 (past_spaces r.left) r.value h.2 gap.2)
 
 pub terms_sound : (field : FieldValue) (n room : ℕ) (sign : Sign) (text : List ℕ) → EndsIn (IsTermsWithin field n room sign) text (terms_at field n room sign text)
@@ -244,7 +254,7 @@ expression_sound field n before (byte ∷ rest) gap = at (nat_eq byte zero_digit
   where
     at : (b : Bool) → (nat_eq byte zero_digit && is_empty (past_spaces rest)) ≡ b → Whole (IsExpression field n) (before ++ byte ∷ rest) (zero_or_terms field n b byte rest)
     at true e =
-        let tests = both (nat_eq byte zero_digit) (is_empty (past_spaces rest)) e in
+        let tests = and_parts (nat_eq byte zero_digit) (is_empty (past_spaces rest)) e in
         subst (λ b. IsExpression field n (before ++ b ∷ rest) []) (sym ((Decides-eqb byte zero_digit).0 tests.0)) (nothing gap (spaces_by_test rest tests.1))
     at false e = whole_of_ends field n before (byte ∷ rest) (signed_by field n (sign_of byte) byte rest) gap (signed_sound field n byte rest (sign_of byte) (sign_told byte))
 

@@ -1,6 +1,6 @@
 -- Where a step stops, from the parts of it.
 use Rattle.std.proofs.Common.{◌≡◌, ◌≤◌, ◌+◌, ℕ, List, length, drop, sym, ◌∙◌, ap, Ok, Err, Result, subst, false, true}
-use Rattle.nichols_expression.specs.Reader.{FaultAt, Step, fault, mapped}
+use Rattle.nichols_expression.specs.Reader.{FaultAt, fault}
 use Rattle.nichols_expression.specs.Steps.{IsStoppedBy, IsFaultOf}
 use Rattle.std.specs.Result.{MatchResult, IsErr, IsErrAnd}
 use Rattle.nichols_expression.specs.declared.faults.ExpressionFault.{ExpressionFault}
@@ -10,10 +10,6 @@ use Rattle.nichols_expression.specs.declared.stop.Stop.{Stop}
 
 pub stopped : {X : Type 0} (text : List ℕ) (read : Result X FaultAt) (stop : Stop) (at : ℕ) (cause : Cause) → at ≤ length text → stop.place ≡ at + 1 → stop.cause ≡ cause → read ≡ fault cause (drop at text) → IsStoppedBy text read stop
 stopped text read stop at cause within place same h = (at, within, place, h ∙ ap (λ k. fault k (drop at text)) (sym same))
-
--- a step that goes on with what another has read stops where that one stops
-pub mapped_stops : {X Y : Type 0} (text : List ℕ) (f : X → Y) (inner : Step X) (read : Step Y) (stop : Stop) → read ≡ mapped f inner → IsStoppedBy text inner stop → IsStoppedBy text read stop
-mapped_stops text f inner read stop h s = (s.0, s.1, s.2, h ∙ ap (mapped f) s.3)
 
 -- a fault made of a stop is one of the same reading
 pub fault_of : {X : Type 0} (text : List ℕ) (read : Result X FaultAt) (stop : Stop) (fault : ExpressionFault) → fault ≡ At stop.place stop.cause → IsStoppedBy text read stop → IsFaultOf text read fault

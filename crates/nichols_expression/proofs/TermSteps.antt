@@ -7,7 +7,7 @@ use Rattle.std.proofs.lemmas.List.{length-take, length-drop}
 use Rattle.nichols_field.specs.Field.{FieldValue, residue}
 use Rattle.nichols_expression.specs.declared.TheConstants.{NUMBER_LIMIT}
 use Rattle.nichols_expression.specs.Bytes.{star}
-use Rattle.nichols_expression.specs.Reader.{Step, fault, mapped, run_at, past_run, past_spaces, word_at, with_coefficient, numbered, past_first_run, term_by, term_at}
+use Rattle.nichols_expression.specs.Reader.{Step, fault, map_step, run_at, past_run, past_spaces, word_at, with_coefficient, term_after_number, past_first_run, term_by, term_at}
 use Rattle.nichols_tensor.specs.Combination.{Term}
 use Rattle.nichols_expression.specs.Steps.{starts_with, starts_with_digit}
 use Rattle.nichols_expression.specs.declared.faults.Cause.TheVariants.{LongNumber}
@@ -26,12 +26,12 @@ by_test field n text from h b e =
     ap (λ c. term_by field n c (get_or text from 0 ∷ drop (from + 1) text)) test ∙ ap (term_by field n b) (sym split)
 
 pub term_without_digit : (field : FieldValue) (n : ℕ) (text : List ℕ) (from : ℕ) → from < length text → starts_with_digit (drop from text) ≡ false →
-    term_from field n text from ≡ mapped (with_coefficient 1) (word_at n (drop from text))
+    term_from field n text from ≡ map_step (with_coefficient 1) (word_at n (drop from text))
 term_without_digit field n text from h e = by_test field n text from h false e
 
 pub term_without_star : (field : FieldValue) (n : ℕ) (text : List ℕ) (from end behind : ℕ) → from < length text → starts_with_digit (drop from text) ≡ true →
     drop end text ≡ past_run (drop from text) → drop behind text ≡ past_spaces (drop end text) → starts_with star (drop behind text) ≡ false →
-    term_from field n text from ≡ mapped (with_coefficient 1) (word_at n (drop from text))
+    term_from field n text from ≡ map_step (with_coefficient 1) (word_at n (drop from text))
 term_without_star field n text from end behind h e run gap no_star =
     by_test field n text from h true e
     ∙ ap (past_first_run field n (drop from text)) (sym (gap ∙ ap past_spaces run))
@@ -39,11 +39,11 @@ term_without_star field n text from end behind h e run gap no_star =
 
 with_star : (field : FieldValue) (n : ℕ) (text : List ℕ) (from end behind : ℕ) → from < length text → starts_with_digit (drop from text) ≡ true →
     drop end text ≡ past_run (drop from text) → drop behind text ≡ past_spaces (drop end text) → starts_with star (drop behind text) ≡ true →
-    (b : Bool) → nat_le (length (run_at (drop from text))) NUMBER_LIMIT ≡ b → term_from field n text from ≡ numbered field n b (drop from text) (drop (behind + 1) text)
+    (b : Bool) → nat_le (length (run_at (drop from text))) NUMBER_LIMIT ≡ b → term_from field n text from ≡ term_after_number field n b (drop from text) (drop (behind + 1) text)
 with_star field n text from end behind h e run gap is_star b short =
     by_test field n text from h true e
     ∙ ap (past_first_run field n (drop from text)) (sym (gap ∙ ap past_spaces run) ∙ (byte_at text behind star is_star).split)
-    ∙ ap (λ c. numbered field n c (drop from text) (drop (behind + 1) text)) short
+    ∙ ap (λ c. term_after_number field n c (drop from text) (drop (behind + 1) text)) short
 
 run_length : (text : List ℕ) (from end : ℕ) → from ≤ end → end ≤ length text → take (end - from) (drop from text) ≡ run_at (drop from text) → length (run_at (drop from text)) ≡ end - from
 run_length text from end low high run = ap length (sym run) ∙ length-take (end - from) (drop from text) ∙ omega (arith, length-drop from text, low, high)
@@ -60,11 +60,11 @@ pub term_of_number : (field : FieldValue) (n : ℕ) (text : List ℕ) (from end 
     drop end text ≡ past_run (drop from text) → drop behind text ≡ past_spaces (drop end text) → starts_with star (drop behind text) ≡ true →
     from ≤ end → end ≤ length text → take (end - from) (drop from text) ≡ run_at (drop from text) → end - from ≤ NUMBER_LIMIT →
     c ≡ residue field (pos (digits_value 10 (take (end - from) (drop from text)))) → drop next text ≡ past_spaces (drop (behind + 1) text) →
-    term_from field n text from ≡ mapped (with_coefficient c) (word_at n (drop next text))
+    term_from field n text from ≡ map_step (with_coefficient c) (word_at n (drop next text))
 term_of_number field n text from end behind next c h e run gap is_star low high taken short value after =
     let size = run_length text from end low high taken in
     let test : nat_le (length (run_at (drop from text))) NUMBER_LIMIT ≡ true = grind (arith, nat_tests, size, short) in
     with_star field n text from end behind h e run gap is_star true test
-    ∙ ap (λ r. mapped (with_coefficient (residue field (pos (digits_value 10 r)))) (word_at n (past_spaces (drop (behind + 1) text)))) (sym taken)
-    ∙ ap (λ k. mapped (with_coefficient k) (word_at n (past_spaces (drop (behind + 1) text)))) (sym value)
-    ∙ ap (λ l. mapped (with_coefficient c) (word_at n l)) (sym after)
+    ∙ ap (λ r. map_step (with_coefficient (residue field (pos (digits_value 10 r)))) (word_at n (past_spaces (drop (behind + 1) text)))) (sym taken)
+    ∙ ap (λ k. map_step (with_coefficient k) (word_at n (past_spaces (drop (behind + 1) text)))) (sym value)
+    ∙ ap (λ l. map_step (with_coefficient c) (word_at n l)) (sym after)

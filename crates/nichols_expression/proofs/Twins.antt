@@ -1,5 +1,6 @@
 -- Two texts with a common front are read alike, as far as what is read depends on that front alone.
 use Rattle.std.proofs.Common.{◌≡◌, ℕ, zero, suc, ◌<◌, ◌≤◌, ◌+◌, pos, Bool, true, false, ◌&&◌, cond, List, [], ◌∷◌, ◌++◌, length, refl, sym, ◌∙◌, ap, subst, nat_eq, nat_le, arith, Option, Some, None, Result, Ok, Err}
+use Rattle.std.proofs.lemmas.Bool.{and_parts}
 use Rattle.std.specs.Str.Parse.{digits_value}
 use Rattle.std.specs.Char.{is_ascii_digit}
 use Rattle.std.proofs.lemmas.Bool.Decides.{nat_tests, Decides-eqb}
@@ -7,13 +8,13 @@ use Rattle.nichols_field.specs.Field.{FieldValue, residue}
 use Rattle.nichols_tensor.specs.Combination.{Term}
 use Rattle.nichols_tensor.specs.declared.TheConstants.{LETTER_LIMIT, WORD_LIMIT}
 use Rattle.nichols_expression.specs.declared.TheConstants.{NUMBER_LIMIT, TERM_LIMIT}
-use Rattle.nichols_expression.specs.Bytes.{space, star, dot, zero_digit, empty_byte, signed}
+use Rattle.nichols_expression.specs.Bytes.{space, star, dot, zero_digit, empty_byte, signed_term}
 use Rattle.nichols_expression.specs.declared.signs.Sign.{Sign}
 use Rattle.nichols_expression.specs.declared.signs.Sign.TheVariants.{Positive}
 use Rattle.nichols_expression.specs.declared.faults.Cause.TheVariants.{Letter, LongWord}
-use Rattle.nichols_expression.specs.Reader.{FaultAt, Step, got, mapped, fault, run_at, past_run, past_spaces, is_letter_run, at_dot, after_dot, after_letter, past_letter, at_run, letters_at, word_by, word_at, with_coefficient, bare_word, numbered, by_star, past_first_run, term_by, term_at, sign_of, Read, put_first, after_term, past_term, with_term, terms_at, is_empty, signed_by, zero_or_terms, expression_at, read_terms}
+use Rattle.nichols_expression.specs.Reader.{FaultAt, Step, got, map_step, fault, run_at, past_run, past_spaces, is_letter_run, at_dot, after_dot, after_letter, past_letter, at_run, letters_at, word_by, word_at, with_coefficient, bare_word, term_after_number, by_star, past_first_run, term_by, term_at, sign_of, Read, put_first, after_term, past_term, with_term, terms_at, is_empty, signed_by, zero_or_terms, expression_at, read_terms}
 use Rattle.nichols_expression.specs.Grammar.{IsSpaces, no_spaces, one_more}
-use Rattle.nichols_expression.proofs.Sound.{both, spaces_by_test}
+use Rattle.nichols_expression.proofs.Sound.{spaces_by_test}
 use Rattle.nichols_expression.proofs.Numbers.{no_letter_long}
 use Rattle.nichols_expression.proofs.Complete.{word_of_digit}
 use Rattle.nichols_expression.proofs.Whole.{not_letter}
@@ -80,12 +81,12 @@ guarded_fault : (m : List ℕ) (r s : Read) → (length m < ahead_of_fault r →
 guarded_fault m (Ok f) s make = tt
 guarded_fault m (Err e) s make = λ h. make h h
 
-stopped_mapped : {X Y : Type 0} (f : X → Y) (s : Step X) → IsStopped s → IsStopped (mapped f s)
+stopped_mapped : {X Y : Type 0} (f : X → Y) (s : Step X) → IsStopped s → IsStopped (map_step f s)
 stopped_mapped f (Ok r) h = h
 stopped_mapped f (Err e) h = tt
 
-mapped_follows : {X Y : Type 0} (m k : List ℕ) (f : X → Y) (r s : Step X) → Follows m k r s → Follows m k (mapped f r) (mapped f s)
-mapped_follows m k f (Ok r) s p = λ h. ((p h).0, ap (mapped f) (p h).1, (p h).2)
+mapped_follows : {X Y : Type 0} (m k : List ℕ) (f : X → Y) (r s : Step X) → Follows m k r s → Follows m k (map_step f r) (map_step f s)
+mapped_follows m k f (Ok r) s p = λ h. ((p h).0, ap (map_step f) (p h).1, (p h).2)
 mapped_follows m k f (Err e) s p = λ h. stopped_mapped f s (p h)
 
 -- ---- letters
@@ -163,9 +164,9 @@ spaced_word_follows m k n s t p =
     word_follows m k n (past_spaces s) (past_spaces t) (spaces_twins m k s t p (omega (arith, h, word_ahead n (past_spaces s)))))
 
 numbered_follows : (m k : List ℕ) (field : FieldValue) (n : ℕ) (s t : List ℕ) → run_at t ≡ run_at s → (after next : List ℕ) → Twins m k after next → (b c : Bool) → c ≡ b →
-    Follows m k (numbered field n b s after) (numbered field n c t next)
+    Follows m k (term_after_number field n b s after) (term_after_number field n c t next)
 numbered_follows m k field n s t same after next p true true e =
-    subst (λ run. Follows m k (numbered field n true s after) (mapped (with_coefficient (residue field (pos (digits_value 10 run)))) (word_at n (past_spaces next)))) (sym same)
+    subst (λ run. Follows m k (term_after_number field n true s after) (map_step (with_coefficient (residue field (pos (digits_value 10 run)))) (word_at n (past_spaces next)))) (sym same)
     (mapped_follows m k (with_coefficient (residue field (pos (digits_value 10 (run_at s))))) (word_at n (past_spaces after)) (word_at n (past_spaces next)) (spaced_word_follows m k n after next p))
 numbered_follows m k field n s t same after next p false false e = λ h. tt
 numbered_follows m k field n s t same after next p true false e = absurd cc
@@ -210,10 +211,10 @@ long_run_stops field n small byte rest digit long = by_behind (past_spaces (past
     no_number = grind (arith, nat_tests, long)
 
     bare : IsStopped (bare_word n (byte ∷ rest))
-    bare = subst (λ r. IsStopped (mapped (with_coefficient 1) r)) (sym no_word) tt
+    bare = subst (λ r. IsStopped (map_step (with_coefficient 1) r)) (sym no_word) tt
 
     by_byte : (b : Bool) (after : List ℕ) → IsStopped (by_star field n b (byte ∷ rest) after)
-    by_byte true after = subst (λ b. IsStopped (numbered field n b (byte ∷ rest) after)) (sym no_number) tt
+    by_byte true after = subst (λ b. IsStopped (term_after_number field n b (byte ∷ rest) after)) (sym no_number) tt
     by_byte false after = bare
 
     by_behind : (behind : List ℕ) → IsStopped (past_first_run field n (byte ∷ rest) behind)
@@ -282,7 +283,7 @@ with_term_follows : (m k : List ℕ) (field : FieldValue) (further : Sign → Li
     FollowsFault m (with_term field further sign r) (with_term field further sign s)
 with_term_follows m k field further within ih sign (Err e) s p = λ h. stopped_with field further sign s (p h)
 with_term_follows m k field further within ih sign (Ok r) s p =
-    let u = signed field sign r.value in
+    let u = signed_term field sign r.value in
     guarded_fault m (past_term further u (past_spaces r.left)) (with_term field further sign s) (λ h.
     let more : length m < length (past_spaces r.left) = omega (arith, h, past_term_ahead further within u (past_spaces r.left)) in
     let q = p more in
@@ -355,7 +356,7 @@ expression_follows m k field n small _ _ (common {s} {t} byte p) = at (nat_eq by
     at true c e = tt
     at false false e = signed_follow m k field n small byte s t p (sign_of byte)
     at false true e =
-        let tests = both (nat_eq byte zero_digit) (is_empty (past_spaces t)) e in
+        let tests = and_parts (nat_eq byte zero_digit) (is_empty (past_spaces t)) e in
         zero_follows m k field n byte s t p ((Decides-eqb byte zero_digit).0 tests.0) (spaces_by_test t tests.1)
 
 -- where the reading of a text stops by a front of it, that of each text with this front stops

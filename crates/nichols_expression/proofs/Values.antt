@@ -3,10 +3,10 @@ use Rattle.std.proofs.Common.{◌≡◌, ◌≤◌, ◌+◌, ◌-◌, ℕ, suc, 
 use Rattle.std.specs.declared.cmp.Ordering.{Ordering}
 use Rattle.std.specs.declared.cmp.Ordering.TheVariants.{Less, Equal, Greater}
 use Rattle.std.proofs.lemmas.List.{length-drop}
-use Rattle.nichols_field.specs.Field.{FieldValue, IsField, plus}
+use Rattle.nichols_field.specs.Field.{FieldValue, IsField}
 use Rattle.nichols_braid.specs.Braid.{BraidValue}
 use Rattle.nichols_tensor.specs.Combination.{Term, Combination, AllElements, without_zeros}
-use Rattle.nichols_tensor.specs.InOrder.{placed, rising_terms, in_order}
+use Rattle.nichols_tensor.specs.InOrder.{with_term, rising_terms, in_order}
 use Rattle.nichols_tensor.specs.WordOrder.{word_cmp}
 use Rattle.nichols_tensor.specs.Words.{IsWordOver, IsOver}
 use Rattle.nichols_expression.specs.declared.TheConstants.{TERM_LIMIT}
@@ -16,13 +16,13 @@ use Rattle.nichols_expression.specs.declared.faults.Cause.{Cause}
 use Rattle.nichols_expression.specs.declared.signs.Sign.{Sign}
 use Rattle.nichols_expression.specs.declared.signs.Sign.TheVariants.{Positive, Reversed}
 use Rattle.nichols_expression.specs.Answers.{IsFaultAnswer}
-use Rattle.nichols_expression.specs.Bytes.{signed}
+use Rattle.nichols_expression.specs.Bytes.{signed_term}
 use Rattle.nichols_expression.specs.Grammar.{IsLetterText, letter, IsLetters, last_letter, next_letter, IsWordText, empty_word, letters, IsTermText, alone, multiple, IsTerms, last_term, next_term, IsSignedTerms, unsigned, after_sign, IsExpression, nothing, terms}
-use Rattle.nichols_expression.specs.Reader.{Fault, finished, read_terms, expression_of}
+use Rattle.nichols_expression.specs.Reader.{Fault, value_or_fault, read_terms, expression_of}
 use Rattle.nichols_expression.specs.Steps.{IsFaultOf}
 use Rattle.nichols_expression.proofs.Sound.{Whole, read_terms_sound}
 use Rattle.nichols_expression.proofs.Coefficients.{expression_elements}
-use Rattle.nichols_tensor.proofs.InOrder.{over-in_order}
+use Rattle.nichols_tensor.proofs.InOrder.{beside, over-in_order}
 
 -- ---- terms that were read
 
@@ -50,7 +50,7 @@ term_over : (k : FieldValue) (n : ℕ) (text : List ℕ) (t : Term) → IsTermTe
 term_over k n _ _ (alone {text} {w} p) = word_over n text w p
 term_over k n _ _ (multiple {text} {w} c one two p) = word_over n text w p
 
-signed_over : (k : FieldValue) (n : ℕ) (sign : Sign) (t : Term) → IsWordOver n t.word → IsWordOver n (signed k sign t).word
+signed_over : (k : FieldValue) (n : ℕ) (sign : Sign) (t : Term) → IsWordOver n t.word → IsWordOver n (signed_term k sign t).word
 signed_over k n Positive t h = h
 signed_over k n Reversed t h = h
 
@@ -75,20 +75,12 @@ expression_few k n _ _ (terms one p fits two) = fits
 
 -- ---- no more terms in order than there were
 
--- where a term goes, by how its word stands to the first one
-abbrev beside : FieldValue → Term → Term → Combination → Combination → Ordering → Combination
-beside k t u f later o = elim o [
-  | Less ↦ t ∷ u ∷ f
-  | Equal ↦ record { word = u.word; coefficient = plus k t.coefficient u.coefficient } ∷ f
-  | Greater ↦ u ∷ later
-]
-
-fewer-placed : (k : FieldValue) (t : Term) (f : Combination) → length (placed k t f) ≤ suc (length f)
-unfolding placed
-fewer-placed k t [] = omega arith
-fewer-placed k t (u ∷ f) = at (word_cmp t.word u.word) (fewer-placed k t f)
+fewer-with_term : (k : FieldValue) (t : Term) (f : Combination) → length (with_term k t f) ≤ suc (length f)
+unfolding with_term
+fewer-with_term k t [] = omega arith
+fewer-with_term k t (u ∷ f) = at (word_cmp t.word u.word) (fewer-with_term k t f)
   where
-    at : (o : Ordering) → length (placed k t f) ≤ suc (length f) → length (beside k t u f (placed k t f) o) ≤ suc (suc (length f))
+    at : (o : Ordering) → length (with_term k t f) ≤ suc (length f) → length (beside k t u f (with_term k t f) o) ≤ suc (suc (length f))
     at Less h = omega arith
     at Equal h = omega arith
     at Greater h = omega (arith, h)
@@ -96,7 +88,7 @@ fewer-placed k t (u ∷ f) = at (word_cmp t.word u.word) (fewer-placed k t f)
 fewer-rising_terms : (k : FieldValue) (f : Combination) → length (rising_terms k f) ≤ length f
 unfolding rising_terms
 fewer-rising_terms k [] = omega arith
-fewer-rising_terms k (t ∷ f) = omega (arith, fewer-placed k t (rising_terms k f), fewer-rising_terms k f)
+fewer-rising_terms k (t ∷ f) = omega (arith, fewer-with_term k t (rising_terms k f), fewer-rising_terms k f)
 
 fewer-without_zeros : (f : Combination) → length (without_zeros f) ≤ length f
 fewer-without_zeros [] = omega arith
@@ -117,14 +109,14 @@ read_few k n text f h = omega (arith, fewer-in_order k f, expression_few k n tex
 
 pub value_read : (braid : BraidValue) (text : List ℕ) (f : Combination) → read_terms braid.field braid.letters text ≡ Ok f → expression_of braid text ≡ Ok (in_order braid.field f)
 unfolding expression_of
-value_read braid text f h = ap (finished braid.field text) h
+value_read braid text f h = ap (value_or_fault braid.field text) h
 
 pub fault_read : (braid : BraidValue) (text : List ℕ) (fault : ExpressionFault) → IsFaultOf text (read_terms braid.field braid.letters text) fault → IsFaultAnswer (expression_of braid text) fault
 unfolding expression_of
 fault_read braid text Memory h = tt
 fault_read braid text (At place cause) h =
     let counted : length text + 1 - length (drop h.0 text) ≡ place = omega (arith, length-drop h.0 text, h.1, h.2) in
-    ap (finished braid.field text) h.3 ∙ ap (λ n. Err (told n cause)) counted
+    ap (value_or_fault braid.field text) h.3 ∙ ap (λ n. Err (told n cause)) counted
   where
     told : ℕ → Cause → Fault
     told n cause = record { place = n; cause = cause }

@@ -1,19 +1,20 @@
 -- Whole expressions of the grammar are read.
 use Rattle.std.proofs.Common.{◌≡◌, ℕ, zero, suc, ◌<◌, ◌≤◌, Bool, true, false, ◌&&◌, cond, List, [], ◌∷◌, ◌++◌, length, refl, sym, ◌∙◌, ap, subst, nat_eq, arith, Some, None, Ok, append_assoc, append-nil}
+use Rattle.std.proofs.lemmas.Bool.{and_parts}
 use Rattle.std.specs.Str.Parse.{digits_value}
 use Rattle.std.proofs.lemmas.Bool.Decides.{Decides-eqb}
 use Rattle.nichols_field.specs.Field.{FieldValue}
 use Rattle.nichols_tensor.specs.Combination.{Term, Combination}
 use Rattle.nichols_tensor.specs.declared.TheConstants.{LETTER_LIMIT}
 use Rattle.nichols_expression.specs.declared.TheConstants.{TERM_LIMIT}
-use Rattle.nichols_expression.specs.Bytes.{space, star, plus_byte, minus_byte, dot, zero_digit, signed}
+use Rattle.nichols_expression.specs.Bytes.{space, star, plus_byte, minus_byte, dot, zero_digit, signed_term}
 use Rattle.nichols_expression.specs.declared.signs.Sign.{Sign}
 use Rattle.nichols_expression.specs.declared.signs.Sign.TheVariants.{Positive, Reversed}
 use Rattle.nichols_expression.specs.Grammar.{IsSpaces, IsSign, plus_sign, minus_sign, IsTermText, IsTerms, last_term, next_term, IsSignedTerms, unsigned, after_sign, IsExpression, nothing, terms}
 use Rattle.std.specs.Char.{is_ascii_digit}
-use Rattle.nichols_expression.specs.Reader.{fault, mapped, run_at, past_run, past_spaces, is_letter_run, past_letter, at_run, letters_at, word_at, with_coefficient, past_first_run, term_at, sign_of, put_first, after_term, past_term, with_term, terms_at, is_empty, signed_by, zero_or_terms, expression_at, read_terms}
+use Rattle.nichols_expression.specs.Reader.{fault, map_step, run_at, past_run, past_spaces, is_letter_run, past_letter, at_run, letters_at, word_at, with_coefficient, past_first_run, term_at, sign_of, put_first, after_term, past_term, with_term, terms_at, is_empty, signed_by, zero_or_terms, expression_at, read_terms}
 use Rattle.nichols_expression.specs.declared.faults.Cause.TheVariants.{Letter}
-use Rattle.nichols_expression.proofs.Sound.{both, spaces_by_test}
+use Rattle.nichols_expression.proofs.Sound.{spaces_by_test}
 use Rattle.nichols_expression.proofs.Fronts.{Begins, Avoids, begins_term, differs, begins_avoids, spaces_avoid, past_gap, all_spaces, run_is, past_run_is}
 use Rattle.nichols_expression.proofs.Complete.{IsAfterTerm, TermRead, term_complete, word_of_digit}
 
@@ -58,7 +59,7 @@ term_read_begins field n [] t rest h = h
 term_read_begins field n (byte ∷ more) t rest h = h.1
 
 terms_step : (field : FieldValue) (n room : ℕ) (sign : Sign) (text : List ℕ) (t : Term) (rest : List ℕ) → TermRead field n text t rest →
-    terms_at field n (suc room) sign text ≡ past_term (terms_at field n room) (signed field sign t) (past_spaces rest)
+    terms_at field n (suc room) sign text ≡ past_term (terms_at field n room) (signed_term field sign t) (past_spaces rest)
 unfolding terms_at
 terms_step field n room sign [] t rest h = absurd h
 terms_step field n room sign (byte ∷ more) t rest h = ap (with_term field (terms_at field n room) sign) h.0
@@ -67,22 +68,22 @@ terms_step field n room sign (byte ∷ more) t rest h = ap (with_term field (ter
 abbrev pub TermsRead : FieldValue → ℕ → ℕ → Sign → List ℕ → Combination → Type 0
 TermsRead field n room sign text f = (terms_at field n room sign text ≡ Ok f) × ((t : Term) × (rest : List ℕ) × TermRead field n text t rest)
 
-last_read : (field : FieldValue) (n : ℕ) → n ≤ LETTER_LIMIT → (room : ℕ) (sign : Sign) (text : List ℕ) (t : Term) → IsTermText field n text t → (back : List ℕ) → IsSpaces back → TermsRead field n (suc room) sign (text ++ back) (signed field sign t ∷ [])
+last_read : (field : FieldValue) (n : ℕ) → n ≤ LETTER_LIMIT → (room : ℕ) (sign : Sign) (text : List ℕ) (t : Term) → IsTermText field n text t → (back : List ℕ) → IsSpaces back → TermsRead field n (suc room) sign (text ++ back) (signed_term field sign t ∷ [])
 last_read field n small room sign text t p back gap =
     let first = term_complete field n small text t p back (after_spaces back gap) in
-    (terms_step field n room sign (text ++ back) t back first ∙ ap (past_term (terms_at field n room) (signed field sign t)) (all_spaces back gap), (t, back, first))
+    (terms_step field n room sign (text ++ back) t back first ∙ ap (past_term (terms_at field n room) (signed_term field sign t)) (all_spaces back gap), (t, back, first))
 
 next_read : (field : FieldValue) (n : ℕ) → n ≤ LETTER_LIMIT → (room : ℕ) (sign next : Sign) (text before after rest : List ℕ) (byte : ℕ) (t : Term) (f : Combination) →
-    IsTermText field n text t → IsSpaces before → IsSign byte next → IsSpaces after → TermsRead field n room next rest f → TermsRead field n (suc room) sign (text ++ (before ++ byte ∷ (after ++ rest))) (signed field sign t ∷ f)
+    IsTermText field n text t → IsSpaces before → IsSign byte next → IsSpaces after → TermsRead field n room next rest f → TermsRead field n (suc room) sign (text ++ (before ++ byte ∷ (after ++ rest))) (signed_term field sign t ∷ f)
 next_read field n small room sign next text before after rest byte t f p gap is second ih =
     let facts = sign_facts byte next is in
     let tail = byte ∷ (after ++ rest) in
     let first = term_complete field n small text t p (before ++ tail) (before_sign before gap byte next is (after ++ rest)) in
     let no_space = begins_avoids begins_term space refl rest (term_read_begins field n rest ih.1.0 ih.1.1 ih.1.2) in (
       terms_step field n room sign (text ++ (before ++ tail)) t (before ++ tail) first
-          ∙ ap (past_term (terms_at field n room) (signed field sign t)) (past_gap before gap tail facts.no_space)
-          ∙ ap (λ o. after_term (terms_at field n room) (signed field sign t) o byte (after ++ rest)) facts.known
-          ∙ ap (put_first (signed field sign t)) (ap (terms_at field n room next) (past_gap after second rest no_space) ∙ ih.0),
+          ∙ ap (past_term (terms_at field n room) (signed_term field sign t)) (past_gap before gap tail facts.no_space)
+          ∙ ap (λ o. after_term (terms_at field n room) (signed_term field sign t) o byte (after ++ rest)) facts.known
+          ∙ ap (put_first (signed_term field sign t)) (ap (terms_at field n room next) (past_gap after second rest no_space) ∙ ih.0),
       (t, before ++ tail, first),
     )
 
@@ -91,7 +92,7 @@ terms_complete field n small zero _ _ _ (last_term p) fits back gap = absurd (om
 terms_complete field n small zero _ _ _ (next_term p before is after ps) fits back gap = absurd (omega (arith, fits))
 terms_complete field n small (suc room) _ _ _ (last_term {sign} {text} {t} p) fits back gap = last_read field n small room sign text t p back gap
 terms_complete field n small (suc room) _ _ _ (next_term {sign} {next} {text} {before} {after} {rest} {byte} {t} {f} p one is two ps) fits back gap =
-    subst (λ l. TermsRead field n (suc room) sign l (signed field sign t ∷ f))
+    subst (λ l. TermsRead field n (suc room) sign l (signed_term field sign t ∷ f))
     (sym (append_assoc (text ++ before ++ byte ∷ after) rest back ∙ append_assoc (text ++ before) (byte ∷ after) (rest ++ back) ∙ append_assoc text before (byte ∷ (after ++ (rest ++ back)))))
     (next_read field n small room sign next text before after (rest ++ back) byte t f p one is two (terms_complete field n small room next rest f ps (omega (arith, fits)) back gap))
 
@@ -113,7 +114,7 @@ zero_is_no_term : (field : FieldValue) (n : ℕ) (rest : List ℕ) → IsSpaces 
 unfolding term_at
 zero_is_no_term field n rest p =
     ap (past_first_run field n (zero_digit ∷ rest)) (ap past_spaces (past_run_is (zero_digit ∷ []) rest (lt_ten, tt) (spaces_avoid_all is_ascii_digit refl rest p)) ∙ all_spaces rest p)
-    ∙ ap (mapped (with_coefficient 1)) (zero_is_no_letter n rest p)
+    ∙ ap (map_step (with_coefficient 1)) (zero_is_no_letter n rest p)
   where
     lt_ten : 0 < 10
     lt_ten = omega arith
@@ -125,7 +126,7 @@ not_zero field n byte more t rest h = at (nat_eq byte zero_digit && is_empty (pa
     at : (b : Bool) → (nat_eq byte zero_digit && is_empty (past_spaces more)) ≡ b → b ≡ false
     at false e = refl
     at true e =
-        let tests = both (nat_eq byte zero_digit) (is_empty (past_spaces more)) e in
+        let tests = and_parts (nat_eq byte zero_digit) (is_empty (past_spaces more)) e in
         let answer = sym (zero_is_no_term field n more (spaces_by_test more tests.1)) ∙ ap (λ b. term_at field n b more) (sym ((Decides-eqb byte zero_digit).0 tests.0)) ∙ h.0 in
         absurd cc
 

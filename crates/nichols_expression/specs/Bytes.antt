@@ -34,6 +34,6 @@ abbrev pub empty_byte : ℕ
 empty_byte = 101
 
 -- a term after a sign
-abbrev pub signed : FieldValue → Sign → Term → Term
-signed field Positive t = t
-signed field Reversed t = record { word = t.word; coefficient = negative field t.coefficient }
+abbrev pub signed_term : FieldValue → Sign → Term → Term
+signed_term field Positive t = t
+signed_term field Reversed t = record { word = t.word; coefficient = negative field t.coefficient }

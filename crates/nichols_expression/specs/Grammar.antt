@@ -6,7 +6,7 @@ use Rattle.nichols_tensor.specs.Combination.{Term, Combination}
 use Rattle.nichols_tensor.specs.Words.{IsLetterOf}
 use Rattle.nichols_tensor.specs.declared.TheConstants.{WORD_LIMIT}
 use Rattle.nichols_expression.specs.declared.TheConstants.{NUMBER_LIMIT, TERM_LIMIT}
-use Rattle.nichols_expression.specs.Bytes.{space, star, plus_byte, minus_byte, dot, zero_digit, empty_byte, signed}
+use Rattle.nichols_expression.specs.Bytes.{space, star, plus_byte, minus_byte, dot, zero_digit, empty_byte, signed_term}
 use Rattle.nichols_expression.specs.declared.signs.Sign.{Sign}
 use Rattle.nichols_expression.specs.declared.signs.Sign.TheVariants.{Positive, Reversed}
 
@@ -46,10 +46,10 @@ pub data IsTermText (field : FieldValue) (n : ℕ) : List ℕ → Term → Type 
 
 -- term { spaces sign spaces term }, after a sign
 pub data IsTerms (field : FieldValue) (n : ℕ) : Sign → List ℕ → Combination → Type 0 where
-  last_term : {sign : Sign} {text : List ℕ} {t : Term} → IsTermText field n text t → IsTerms field n sign text (signed field sign t ∷ [])
+  last_term : {sign : Sign} {text : List ℕ} {t : Term} → IsTermText field n text t → IsTerms field n sign text (signed_term field sign t ∷ [])
   next_term : {sign next : Sign} {text before after rest : List ℕ} {byte : ℕ} {t : Term} {f : Combination} →
       IsTermText field n text t → IsSpaces before → IsSign byte next → IsSpaces after → IsTerms field n next rest f →
-      IsTerms field n sign (text ++ before ++ byte ∷ after ++ rest) (signed field sign t ∷ f)
+      IsTerms field n sign (text ++ before ++ byte ∷ after ++ rest) (signed_term field sign t ∷ f)
 
 -- [ sign spaces ] term { spaces sign spaces term }
 pub data IsSignedTerms (field : FieldValue) (n : ℕ) : List ℕ → Combination → Type 0 where

@@ -22,8 +22,8 @@ abbrev pub GrammarIsAccepted : Type 0
 GrammarIsAccepted = (braid : BraidValue) → IsBraid braid → (text : List ℕ) (f : Combination) → (expression_of braid text ≡ Ok f) ↔ IsExpressionOf braid text f
 
 -- a text has one value at most
-abbrev pub HasOneValue : Type 0
-HasOneValue = (braid : BraidValue) → IsBraid braid → (text : List ℕ) (f g : Combination) → IsExpressionOf braid text f → IsExpressionOf braid text g → f ≡ g
+abbrev pub ATextHasOneValue : Type 0
+ATextHasOneValue = (braid : BraidValue) → IsBraid braid → (text : List ℕ) (f g : Combination) → IsExpressionOf braid text f → IsExpressionOf braid text g → f ≡ g
 
 -- the text is no expression over the braid's letters
 abbrev pub IsNoExpression : BraidValue → List ℕ → Type 0
@@ -47,5 +47,5 @@ pub record IsPrintable (braid : BraidValue) (f : Combination) : Type 0 where
   pub few : length f ≤ TERM_LIMIT
 
 -- a printed combination is an expression with that value, and is read again as itself
-abbrev pub PrintedIsReadAgain : Type 0
-PrintedIsReadAgain = (braid : BraidValue) → IsBraid braid → (f : Combination) → IsPrintable braid f → IsExpressionOf braid (form_text f) f × (expression_of braid (form_text f) ≡ Ok f)
+abbrev pub PrintedCombinationsAreReadAgain : Type 0
+PrintedCombinationsAreReadAgain = (braid : BraidValue) → IsBraid braid → (f : Combination) → IsPrintable braid f → IsExpressionOf braid (form_text f) f × (expression_of braid (form_text f) ≡ Ok f)

@@ -8,7 +8,7 @@ use Rattle.nichols_tensor.specs.Combination.{Term, Combination}
 use Rattle.nichols_tensor.specs.InOrder.{in_order}
 use Rattle.nichols_tensor.specs.declared.TheConstants.{WORD_LIMIT}
 use Rattle.nichols_expression.specs.declared.TheConstants.{NUMBER_LIMIT, TERM_LIMIT}
-use Rattle.nichols_expression.specs.Bytes.{space, star, plus_byte, minus_byte, dot, zero_digit, empty_byte, signed}
+use Rattle.nichols_expression.specs.Bytes.{space, star, plus_byte, minus_byte, dot, zero_digit, empty_byte, signed_term}
 use Rattle.nichols_expression.specs.declared.signs.Sign.{Sign}
 use Rattle.nichols_expression.specs.declared.signs.Sign.TheVariants.{Positive, Reversed}
 use Rattle.nichols_expression.specs.declared.faults.Cause.{Cause}
@@ -35,9 +35,9 @@ abbrev pub fault : {Y : Type 0} → Cause → List ℕ → Result Y FaultAt
 fault cause left = Err (record { left = left; cause = cause })
 
 -- what was read, changed
-abbrev pub mapped : {X Y : Type 0} → (X → Y) → Step X → Step Y
-mapped f (Ok r) = got (f r.value) r.left
-mapped f (Err e) = Err e
+abbrev pub map_step : {X Y : Type 0} → (X → Y) → Step X → Step Y
+map_step f (Ok r) = got (f r.value) r.left
+map_step f (Err e) = Err e
 
 -- ---- runs of digits and spaces
 
@@ -72,7 +72,7 @@ at_dot further (byte ∷ rest) = after_dot further (is_ascii_digit byte) byte re
 
 -- after a letter: a dot, or the word's end
 abbrev pub after_letter : (List ℕ → Step (List ℕ)) → ℕ → Bool → ℕ → List ℕ → Step (List ℕ)
-after_letter further a true byte rest = mapped (λ w. a ∷ w) (at_dot further rest)
+after_letter further a true byte rest = map_step (λ w. a ∷ w) (at_dot further rest)
 after_letter further a false byte rest = got (a ∷ []) (byte ∷ rest)
 
 abbrev pub past_letter : (List ℕ → Step (List ℕ)) → ℕ → List ℕ → Step (List ℕ)
@@ -107,16 +107,16 @@ abbrev pub with_coefficient : ℕ → List ℕ → Term
 with_coefficient c w = record { word = w; coefficient = c }
 
 abbrev pub bare_word : ℕ → List ℕ → Step Term
-bare_word n text = mapped (with_coefficient 1) (word_at n text)
+bare_word n text = map_step (with_coefficient 1) (word_at n text)
 
 -- a run before `*`: a number, or too long a one
-abbrev pub numbered : FieldValue → ℕ → Bool → List ℕ → List ℕ → Step Term
-numbered field n true text after = mapped (with_coefficient (residue field (pos (digits_value 10 (run_at text))))) (word_at n (past_spaces after))
-numbered field n false text after = fault LongNumber text
+abbrev pub term_after_number : FieldValue → ℕ → Bool → List ℕ → List ℕ → Step Term
+term_after_number field n true text after = map_step (with_coefficient (residue field (pos (digits_value 10 (run_at text))))) (word_at n (past_spaces after))
+term_after_number field n false text after = fault LongNumber text
 
 -- what comes after a run and spaces: `*` or not
 abbrev pub by_star : FieldValue → ℕ → Bool → List ℕ → List ℕ → Step Term
-by_star field n true text after = numbered field n (nat_le (length (run_at text)) NUMBER_LIMIT) text after
+by_star field n true text after = term_after_number field n (nat_le (length (run_at text)) NUMBER_LIMIT) text after
 by_star field n false text after = bare_word n text
 
 abbrev pub past_first_run : FieldValue → ℕ → List ℕ → List ℕ → Step Term
@@ -156,7 +156,7 @@ past_term further t [] = Ok (t ∷ [])
 past_term further t (byte ∷ rest) = after_term further t (sign_of byte) byte rest
 
 abbrev pub with_term : FieldValue → (Sign → List ℕ → Read) → Sign → Step Term → Read
-with_term field further sign (Ok r) = past_term further (signed field sign r.value) (past_spaces r.left)
+with_term field further sign (Ok r) = past_term further (signed_term field sign r.value) (past_spaces r.left)
 with_term field further sign (Err e) = Err e
 
 -- the terms after a sign, at most so many
@@ -193,10 +193,10 @@ abbrev pub Fault : Type 0
 Fault = record { place : ℕ; cause : Cause }
 
 -- the value of the terms: those of one word are added, and zeros dropped; or the place of a fault, by what is left of the text there
-abbrev pub finished : FieldValue → List ℕ → Read → Result Combination Fault
-finished field text (Ok terms) = Ok (in_order field terms)
-finished field text (Err e) = Err (record { place = length text + 1 - length e.left; cause = e.cause })
+abbrev pub value_or_fault : FieldValue → List ℕ → Read → Result Combination Fault
+value_or_fault field text (Ok terms) = Ok (in_order field terms)
+value_or_fault field text (Err e) = Err (record { place = length text + 1 - length e.left; cause = e.cause })
 
 -- the value of a text as an expression over the letters and the field of a braid, or its first fault from the left
 unfoldable pub expression_of : BraidValue → List ℕ → Result Combination Fault
-expression_of braid text = finished braid.field text (read_terms braid.field braid.letters text)
+expression_of braid text = value_or_fault braid.field text (read_terms braid.field braid.letters text)

@@ -7,7 +7,9 @@ ghost use Rattle.nichols_tensor.specs.declared.TheConstants.{LETTER_LIMIT};
 ghost use Rattle.nichols_expression.specs.declared.TheConstants.{NUMBER_LIMIT};
 ghost use Rattle.nichols_expression.specs.Reader.{is_letter_run};
 
-/// The number that a run of at most 9 digits writes.
+use crate::NUMBER_LIMIT;
+
+/// The number that a run of digits writes.
 pub(crate) fn number_of(run: &[u8]) -> u32
     requires digits { AllDigits 10 run.now }
     requires short { length run.now ≤ NUMBER_LIMIT }
@@ -32,7 +34,7 @@ pub(crate) fn letter_of(run: &[u8], letters: u8) -> Option<u8>
     if run.is_empty() {
         return None;
     }
-    if run.len() > 2 {
+    if run.len() > NUMBER_LIMIT {
         return None;
     }
     let has_leading_zero = run[0] == b'0';

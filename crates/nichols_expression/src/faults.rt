@@ -3,6 +3,8 @@
 ghost use Rattle.nichols_expression.specs.declared.faults.ExpressionFault.TheVariants.{Memory};
 ghost use Rattle.std.specs.Prelude.{◌≡◌};
 
+use crate::{EXPRESSION_LIMIT, NUMBER_LIMIT, TERM_LIMIT};
+use nichols_tensor::WORD_LIMIT;
 use std::alloc::{AllocError, AllocFailed};
 use std::error::Error;
 use std::fmt;
@@ -16,13 +18,13 @@ pub enum Cause {
     Byte,
     /// A run of digits that is no letter of the braid, where one is due.
     Letter,
-    /// A number before `*` with more than 9 digits.
+    /// A number before `*` with more digits than `NUMBER_LIMIT`.
     LongNumber,
-    /// The 61st letter of a word.
+    /// A letter of a word behind as many as a word may have.
     LongWord,
-    /// The 1,001st term.
+    /// A term behind as many as an expression may have.
     Terms,
-    /// The 1,001st expression of a document.
+    /// An expression of a document behind as many as it may have.
     Surplus,
 }
 
@@ -32,10 +34,10 @@ impl fmt::Display for Cause {
             Cause::Early => write!(f, "text ends too early"),
             Cause::Byte => write!(f, "unexpected byte"),
             Cause::Letter => write!(f, "letter outside the rack"),
-            Cause::LongNumber => write!(f, "number longer than 9 digits"),
-            Cause::LongWord => write!(f, "word longer than 60 letters"),
-            Cause::Terms => write!(f, "more than 1000 terms"),
-            Cause::Surplus => write!(f, "more than 1000 expressions"),
+            Cause::LongNumber => write!(f, "number longer than {NUMBER_LIMIT} digits"),
+            Cause::LongWord => write!(f, "word longer than {WORD_LIMIT} letters"),
+            Cause::Terms => write!(f, "more than {TERM_LIMIT} terms"),
+            Cause::Surplus => write!(f, "more than {EXPRESSION_LIMIT} expressions"),
         }
     }
 }

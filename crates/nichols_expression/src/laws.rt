@@ -1,6 +1,6 @@
 //! What ties the reading of expressions to their grammar.
 
-ghost use Rattle.nichols_expression.specs.Laws.{GrammarIsAccepted, HasOneValue, FaultsHavePlaces, FaultsAreFinal, PrintedIsReadAgain};
+ghost use Rattle.nichols_expression.specs.Laws.{GrammarIsAccepted, ATextHasOneValue, FaultsHavePlaces, FaultsAreFinal, PrintedCombinationsAreReadAgain};
 
 /// Exactly the texts of the grammar are accepted, each with its value.
 pub fn grammar_is_accepted()
@@ -9,7 +9,7 @@ pub fn grammar_is_accepted()
 
 /// A text has one value at most.
 pub fn a_text_has_one_value()
-    ensures { HasOneValue }
+    ensures { ATextHasOneValue }
 {}
 
 /// Places count from 1 and lie in the text, but that of a text which ends too early, which is the one behind its last byte.
@@ -31,5 +31,5 @@ pub fn faults_are_final()
 
 /// A printed combination of at most 1,000 terms over the braid is an expression with that value, and is read again as itself.
 pub fn printed_combinations_are_read_again()
-    ensures { PrintedIsReadAgain }
+    ensures { PrintedCombinationsAreReadAgain }
 {}

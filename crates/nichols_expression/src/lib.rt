@@ -20,5 +20,8 @@ pub const NUMBER_LIMIT: usize = 9;
 /// The most terms of an expression.
 pub const TERM_LIMIT: usize = 1000;
 
+/// The most expressions of a document.
+pub const EXPRESSION_LIMIT: usize = 1000;
+
 #[cfg(test)]
 mod tests;

@@ -2,7 +2,7 @@
 
 ghost use Rattle.std.specs.Prelude.{◌≡◌};
 ghost use Rattle.nichols_field.specs.Field.{IsElement};
-ghost use Rattle.nichols_expression.specs.Bytes.{signed};
+ghost use Rattle.nichols_expression.specs.Bytes.{signed_term};
 ghost use Rattle.nichols_expression.specs.Reader.{sign_of};
 
 use nichols_field::Field;
@@ -31,7 +31,7 @@ pub(crate) fn sign_of(byte: u8) -> Option<Sign>
 /// A term after a sign.
 pub(crate) fn signed(field: Field, sign: Sign, term: Term) -> Term
     requires { IsElement field term.coefficient }
-    ensures { result ≡ signed field sign term }
+    ensures { result ≡ signed_term field sign term }
 {
     match sign {
         Sign::Positive => term,

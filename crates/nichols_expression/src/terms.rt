@@ -5,7 +5,7 @@ ghost use Rattle.std.specs.Result.{MatchResult};
 ghost use Rattle.nichols_field.specs.Field.{IsElement};
 ghost use Rattle.nichols_tensor.specs.declared.TheConstants.{LETTER_LIMIT};
 ghost use Rattle.nichols_expression.specs.declared.TheConstants.{TERM_LIMIT};
-ghost use Rattle.nichols_expression.specs.Reader.{mapped, term_at, terms_at, with_coefficient, word_at};
+ghost use Rattle.nichols_expression.specs.Reader.{map_step, term_at, terms_at, with_coefficient, word_at};
 ghost use Rattle.nichols_expression.specs.Steps.{IsFaultOf, IsReadTo, IsStoppedBy};
 
 use crate::digits::number_of;
@@ -31,7 +31,7 @@ fn read_coefficient(
     requires { from < length text.now }
     ensures { MatchResult result
         (λ r. (from ≤ r.1) × (r.1 ≤ length text.now) × IsElement field r.0
-        × (term_at field letters (get_or text.now from 0) (drop (from + 1) text.now) ≡ mapped (with_coefficient r.0) (word_at letters (drop r.1 text.now))))
+        × (term_at field letters (get_or text.now from 0) (drop (from + 1) text.now) ≡ map_step (with_coefficient r.0) (word_at letters (drop r.1 text.now))))
         (IsStoppedBy text.now (term_at field letters (get_or text.now from 0) (drop (from + 1) text.now))) }
 {
     let _modulus = field.modulus();

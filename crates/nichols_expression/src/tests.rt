@@ -1,43 +1,12 @@
 use super::*;
-use nichols_braid::{Braid, Scalars};
-use nichols_field::Field;
-use nichols_tensor::LETTER_LIMIT;
-use nichols_words::{Comb, Word};
+use nichols_braid::Braid;
+use nichols_testing::{braid_with_constant, has_terms, word};
 use std::alloc::{AllocError, Global};
 use std::test::Fail;
 
 /// The braid of three letters with `i ▷ j = j` and the scalar -1, over 101 elements.
 fn three_letters(alloc: Global) -> Result<Braid, Fail> {
-    let field = Field::new(101).map_err(|_| "no field")?;
-    let mut rack = Vec::new(alloc);
-    for _ in 0..3 {
-        rack.push([1, 2, 3].as_slice().to_vec(alloc)?)?;
-    }
-    let braid = Braid::new(alloc, field, rack.as_slice(), &Scalars::Constant(-1)).map_err(
-        |_| "no braid",
-    )?;
-    Ok(braid)
-}
-
-/// The word that a text spells, as "3.1", or "" for the empty word.
-fn word(text: &str) -> Word {
-    let mut word = Word::empty();
-    for letter in text.split('.') {
-        if let Ok(letter) = letter.parse() {
-            if 1 <= letter && letter <= LETTER_LIMIT {
-                let _put = word.push(letter);
-            }
-        }
-    }
-    word
-}
-
-/// Whether a combination has these terms, in this order.
-fn has_terms(comb: &Comb, expected: &[(&str, u32)]) -> bool {
-    let terms = comb.terms();
-    terms.len() == expected.len()
-        && terms.iter().zip(expected).all(|(term, (text, coefficient))| term.word == word(text)
-            && term.coefficient == *coefficient)
+    braid_with_constant(alloc, 101, &[&[1, 2, 3], &[1, 2, 3], &[1, 2, 3]], -1)
 }
 
 /// A text, then so many times another, then a third.

@@ -33,8 +33,8 @@ unfoldable pub times : FieldValue → ℕ → ℕ → ℕ
 times field a b = (a * b) % field.size
 
 -- the element that an unreduced sum, which is any number, stands for
-unfoldable pub settled : FieldValue → ℕ → ℕ
-settled field n = n % field.size
+unfoldable pub element_of_sum : FieldValue → ℕ → ℕ
+element_of_sum field n = n % field.size
 
 -- the element whose sum with the given one is 0
 unfoldable pub negative : FieldValue → ℕ → ℕ

@@ -2,7 +2,7 @@
 #![tactic(auto)]
 
 ghost use Rattle.std.specs.Prelude.{◌≡◌, ◌≢◌, IsTrue, MatchResult, false};
-ghost use Rattle.nichols_field.specs.Field.{IsField, IsElement, plus, times, settled, negative, residue, is_modulus_integer, prime_field, modulus_of};
+ghost use Rattle.nichols_field.specs.Field.{IsField, IsElement, plus, times, element_of_sum, negative, residue, is_modulus_integer, prime_field, modulus_of};
 
 use std::error::Error;
 use std::fmt;
@@ -135,7 +135,7 @@ impl Field {
     pub fn add_product_to(self, pending: u64, a: u32, b: u32) -> u64
         requires left { IsElement self a }
         requires right { IsElement self b }
-        ensures { settled self result ≡ plus self (settled self pending) (times self a b) }
+        ensures { element_of_sum self result ≡ plus self (element_of_sum self pending) (times self a b) }
     {
         let product = a as u64 * b as u64;
         if pending < ROOM {
@@ -150,7 +150,7 @@ impl Field {
     #[tactic(auto, using(crate::proofs::Table::modulus_bounds, crate::proofs::Pending::settled_sum, crate::proofs::Pending::settled_sum_again, std::proofs::lemmas::Nat::mod_below), unfolding(crate::specs::Field::IsElement))]
     pub fn add_to(self, pending: u64, a: u32) -> u64
         requires { IsElement self a }
-        ensures { settled self result ≡ plus self (settled self pending) a }
+        ensures { element_of_sum self result ≡ plus self (element_of_sum self pending) a }
     {
         if pending < ROOM {
             pending + a as u64
@@ -161,9 +161,9 @@ impl Field {
 
     /// The element that an unreduced sum stands for.
     #[inline(always)]
-    #[tactic(auto, using(crate::proofs::Table::modulus_bounds, std::proofs::lemmas::Nat::mod_below), unfolding(crate::specs::Field::settled, crate::specs::Field::IsElement))]
+    #[tactic(auto, using(crate::proofs::Table::modulus_bounds, std::proofs::lemmas::Nat::mod_below), unfolding(crate::specs::Field::element_of_sum, crate::specs::Field::IsElement))]
     pub fn settle(self, pending: u64) -> u32
-        ensures value { result ≡ settled self pending }
+        ensures value { result ≡ element_of_sum self pending }
         ensures element { IsElement self result }
     {
         let rest = match self.modulus {

@@ -1,5 +1,5 @@
 -- The lists of a degree, from those of its blocks, and their numbers.
-use Rattle.std.proofs.Common.{◌≡◌, ℕ, zero, suc, ◌+◌, ◌*◌, ◌<◌, ◌≤◌, ◌^◌, List, [], ◌∷◌, ◌++◌, length, map, filter, flat_map, take, drop, refl, sym, ◌∙◌, ap, ap₂, subst, arith}
+use Rattle.std.proofs.Common.{◌≡◌, ℕ, zero, suc, ◌+◌, ◌*◌, ◌<◌, ◌≤◌, List, [], ◌∷◌, ◌++◌, length, map, filter, flat_map, take, sym, ◌∙◌, ap, ap₂, subst, arith}
 use Rattle.std.specs.Prelude.{slice_index}
 use Rattle.std.specs.List.{Contains, sum_by}
 use Rattle.std.specs.List.Sorted.{IsPermutation, IsSortedByKey}
@@ -28,24 +28,14 @@ use Rattle.nichols_braid.proofs.Reduction.{basis_rises}
 use Rattle.nichols_lift.proofs.Readings.{one_reading}
 use Rattle.nichols_value.specs.Block.{block_basis, block_relations}
 use Rattle.nichols_value.specs.Rule.{PlainRule, IsRuleOf}
-use Rattle.nichols_value.proofs.Readings.{basis_is, table_is}
+use Rattle.nichols_value.proofs.FewWords.{basis_within_rows}
+use Rattle.nichols_value.proofs.RuleEntries.{basis_is, table_is}
 use Rattle.nichols_block.proofs.LevelRules.{product_is_listed}
+use Rattle.nichols_graded.specs.declared.TheConstants.{DIMENSION_BOUND}
 use Rattle.nichols_graded.specs.Graded.{GradedValue, IsGraded}
-use Rattle.nichols_graded.specs.Rows.{AreSizes}
+use Rattle.nichols_graded.specs.Sizes.{AreSizes}
 use Rattle.nichols_graded.proofs.SplitLists.{parts_count, sorted_parts}
-use Rattle.nichols_graded.proofs.WholeBlocks.{few_least, finished_within}
-
--- a list that was sorted where it stood
-pub written_back : {X : Type 0} (n : ℕ) (xs ys : List X) → n ≡ length xs → length ys ≡ length xs → take n (ys ++ drop (length ys) xs) ≡ ys
-written_back {X = X} n xs ys e size = ap₂ (λ k zs. take k (ys ++ zs)) (e ∙ sym size) (ap (λ k. drop k xs) size ∙ none xs) ∙ whole ys
-  where
-    none : (zs : List X) → drop (length zs) zs ≡ []
-    none [] = refl
-    none (z ∷ zs) = none zs
-
-    whole : (zs : List X) → take (length zs) (zs ++ []) ≡ zs
-    whole [] = refl
-    whole (z ∷ zs) = ap (λ vs. z ∷ vs) (whole zs)
+use Rattle.nichols_graded.proofs.DegreeStops.{finished_within}
 
 -- ---- least words
 
@@ -97,7 +87,7 @@ pub counted_more : (g : GradedValue) → IsGraded g → (m k words more : ℕ) (
 counted_more g h m k words more r us within less so_far rule us_is e =
     let block : List ℕ = word_at (products g.braid m) k in
     let size : more ≡ length (block_basis g.braid m block) = e ∙ ap length (us_is ∙ basis_is g.braid m block r rule) in
-    let few = few_least g.braid h.braid m block in
+    let few = basis_within_rows g.braid h.braid m block in
     let rows_few = finished_within g h m within block (word_at_is_in (products g.braid m) k less) in
     let most = h.few_rows in
     let limit = so_far.most in
@@ -120,7 +110,7 @@ counted_all braid is m k words past h =
 pub some_products : (braid : BraidValue) → 0 < length (products braid 0)
 some_products braid = let e = ap length (products_first braid) in omega (arith, e)
 
-pub first_sizes : (braid : BraidValue) (n : ℕ) → n ≡ length (block_basis braid 0 (word_at (products braid 0) 0)) → n < 2 ^ 57 → AreSizes braid 0 (n ∷ [])
+pub first_sizes : (braid : BraidValue) (n : ℕ) → n ≡ length (block_basis braid 0 (word_at (products braid 0) 0)) → n < DIMENSION_BOUND → AreSizes braid 0 (n ∷ [])
 first_sizes braid n e small = record {
   counts =
       ap (λ k. k ∷ []) (e ∙ ap (λ gs. length (block_basis braid 0 (word_at gs 0))) (products_first braid))
@@ -128,6 +118,6 @@ first_sizes braid n e small = record {
   small = each;
 }
   where
-    each : (k : ℕ) → slice_index (n ∷ []) k < 2 ^ 57
+    each : (k : ℕ) → slice_index (n ∷ []) k < DIMENSION_BOUND
     each zero = small
     each (suc k) = omega arith

@@ -8,30 +8,30 @@ use Rattle.std.proofs.lemmas.Bool.{cases_lt, leb-true, le-leb, and_from}
 use Rattle.std.proofs.lemmas.Bool.Decides.{nat_tests}
 use Rattle.std.proofs.lemmas.List.Folds.{list_all_more}
 use Rattle.std.proofs.lemmas.List.{length-replicate, length-take-le, length-drop, append-nil, take_all}
-use Rattle.nichols_graded.specs.Factors.{added, times_interval, quotient_of, quotient}
+use Rattle.nichols_graded.specs.Factors.{polynomial_sum, times_interval, quotient_of, quotient}
 
 -- ---- a number added to the first coefficients, and taken from them
 
 abbrev raised : ℕ → ℕ → List ℕ → List ℕ
-raised j a p = added (replicate j a) p
+raised j a p = polynomial_sum (replicate j a) p
 
 abbrev pub lowered : ℕ → ℕ → List ℕ → List ℕ
 lowered j a p = map (λ x. x - a) (take j p) ++ drop j p
 
 raised_length : (j a : ℕ) (p : List ℕ) → j ≤ length p → length (raised j a p) ≡ length p
-unfolding added
+unfolding polynomial_sum
 raised_length zero a p most = refl
 raised_length (suc j) a [] most = absurd (omega arith)
 raised_length (suc j) a (x ∷ p) most = ap suc (raised_length j a p (omega arith))
 
 raised_enough : (j a : ℕ) (p : List ℕ) → j ≤ length p → list_all (nat_le a) (take j (raised j a p)) ≡ true
-unfolding added
+unfolding polynomial_sum
 raised_enough zero a p most = refl
 raised_enough (suc j) a [] most = absurd (omega arith)
 raised_enough (suc j) a (x ∷ p) most = and_from _ _ (le-leb a (a + x) (omega arith)) (raised_enough j a p (omega arith))
 
 lowered_raised : (j a : ℕ) (p : List ℕ) → j ≤ length p → lowered j a (raised j a p) ≡ p
-unfolding added
+unfolding polynomial_sum
 lowered_raised zero a p most = refl
 lowered_raised (suc j) a [] most = absurd (omega arith)
 lowered_raised (suc j) a (x ∷ p) most =
@@ -39,7 +39,7 @@ lowered_raised (suc j) a (x ∷ p) most =
     ap (λ y. y ∷ lowered j a (raised j a p)) first ∙ ap (λ q. x ∷ q) (lowered_raised j a p (omega arith))
 
 raised_lowered : (j a : ℕ) (p : List ℕ) → j ≤ length p → list_all (nat_le a) (take j p) ≡ true → raised j a (lowered j a p) ≡ p
-unfolding added
+unfolding polynomial_sum
 raised_lowered zero a p most enough = refl
 raised_lowered (suc j) a [] most enough = absurd (omega arith)
 raised_lowered (suc j) a (x ∷ p) most enough = at (nat_le a x) refl (list_all (nat_le a) (take j p)) refl (λ h. raised_lowered j a p (omega arith) h) enough
@@ -80,12 +80,12 @@ enough_next i a p q less e enough within =
 
 -- ---- the product with (k)
 
-pub interval_cons : (k a : ℕ) (q : List ℕ) → 0 < k → times_interval k (a ∷ q) ≡ a ∷ raised (k - 1) a (times_interval k q)
-unfolding added times_interval
+interval_cons : (k a : ℕ) (q : List ℕ) → 0 < k → times_interval k (a ∷ q) ≡ a ∷ raised (k - 1) a (times_interval k q)
+unfolding polynomial_sum times_interval
 interval_cons k a q some =
     let whole : k ≡ suc (k - 1) = omega arith in
     let first : a + 0 ≡ a = omega arith in
-    ap (λ n. added (replicate n a) (0 ∷ times_interval k q)) whole ∙ ap (λ x. x ∷ raised (k - 1) a (times_interval k q)) first
+    ap (λ n. polynomial_sum (replicate n a) (0 ∷ times_interval k q)) whole ∙ ap (λ x. x ∷ raised (k - 1) a (times_interval k q)) first
 
 interval_nil : (k : ℕ) → times_interval k [] ≡ replicate (k - 1) 0
 unfolding times_interval
@@ -160,7 +160,7 @@ divides (suc n) k (a ∷ q) some long =
 
 -- ---- the quotient
 
-pub quotient_long : (k : ℕ) (p : List ℕ) → k ≤ length p + 1 → quotient k p ≡ quotient_of (length p + 1 - k) k p
+quotient_long : (k : ℕ) (p : List ℕ) → k ≤ length p + 1 → quotient k p ≡ quotient_of (length p + 1 - k) k p
 unfolding quotient
 quotient_long k p most = ap (λ b. cond b None (quotient_of (length p + 1 - k) k p)) (let t : nat_lt (length p + 1) k ≡ false = grind (arith, nat_tests) in t)
 
@@ -218,9 +218,9 @@ division_stops count k i o r some less long e small =
     e ∙ ap (option_map (λ q. take i r ++ q))
     (one_division count k i r some less long ∙ ap (λ b. cond b (option_map (λ q. get_or r i 0 ∷ q) (quotient_of (count - (i + 1)) k (lowered (width k i) (get_or r i 0) (drop (i + 1) r)))) None) small)
 
-one_more : (f : List ℕ) (a : ℕ) (o : Option (List ℕ)) → option_map (λ q. f ++ q) (option_map (λ q. a ∷ q) o) ≡ option_map (λ q. (f ++ a ∷ []) ++ q) o
-one_more f a None = refl
-one_more f a (Some q) = ap Some (sym (append_assoc f (a ∷ []) q))
+pub front_more : (f : List ℕ) (a : ℕ) (o : Option (List ℕ)) → option_map (λ q. f ++ q) (option_map (λ q. a ∷ q) o) ≡ option_map (λ q. (f ++ a ∷ []) ++ q) o
+front_more f a None = refl
+front_more f a (Some q) = ap Some (sym (append_assoc f (a ∷ []) q))
 
 take_front : (n : ℕ) (f q : List ℕ) → length f ≡ n → take n (f ++ q) ≡ f
 take_front n f q e = ap (λ m. take m (f ++ q)) (sym e) ∙ take-append_seam f q
@@ -245,7 +245,7 @@ division_goes_on count k i o r new some less long e enough is =
     let later : drop (i + 1) (put_behind k i r new) ≡ rest = ap (drop (i + 1)) written ∙ drop_front (i + 1) (take (i + 1) r) rest front in
     e
     ∙ ap (option_map (λ q. take i r ++ q)) (one_division count k i r some less long ∙ ap (λ b. cond b (option_map (λ q. a ∷ q) (quotient_of (count - (i + 1)) k rest)) None) enough)
-    ∙ one_more (take i r) a (quotient_of (count - (i + 1)) k rest)
+    ∙ front_more (take i r) a (quotient_of (count - (i + 1)) k rest)
     ∙ ap (λ f. option_map (λ q. f ++ q) (quotient_of (count - (i + 1)) k rest)) (sym first)
     ∙ ap (λ p. option_map (λ q. take (i + 1) (put_behind k i r new) ++ q) (quotient_of (count - (i + 1)) k p)) (sym later)
 

@@ -8,7 +8,7 @@ use Rattle.nichols_braid.specs.declared.TheConstants.{MOST_DEGREES, MOST_PRODUCT
 use Rattle.nichols_braid.specs.Braid.{BraidValue}
 use Rattle.nichols_braid.specs.Kernel.{is_in_kernel}
 use Rattle.nichols_braid.specs.Products.{products}
-use Rattle.nichols_braid.specs.End.{is_empty_degree, finished, is_closed, stop_of}
+use Rattle.nichols_braid.specs.End.{is_empty_degree, degrees_finished, is_closed, stop_of}
 use Rattle.nichols_braid.proofs.EndLaws.{in_finished, from_finished, finished_below_count, below_count_finished, closed_where_a_degree_is_empty}
 use Rattle.nichols_graded.specs.declared.ends.End.TheVariants.{Closed, Stopped}
 use Rattle.nichols_graded.specs.declared.ends.Stop.{Stop}
@@ -50,10 +50,10 @@ free_is_within braid limit rows_limit m free =
 
 -- the degrees that are finished, and their number
 abbrev degrees_of : BraidValue → (ℕ → Option Stop) → List ℕ
-degrees_of braid stops = finished is_in_kernel braid stops
+degrees_of braid stops = degrees_finished is_in_kernel braid stops
 
 abbrev count : BraidValue → (ℕ → Option Stop) → ℕ
-count braid stops = length (finished is_in_kernel braid stops)
+count braid stops = length (degrees_finished is_in_kernel braid stops)
 
 pub free_if_finished : (braid : BraidValue) (stops : ℕ → Option Stop) (m : ℕ) → Contains (degrees_of braid stops) m → stops m ≡ None
 free_if_finished braid stops m i = (from_finished is_in_kernel braid stops m i).1 m (omega arith)

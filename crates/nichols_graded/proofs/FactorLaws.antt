@@ -93,7 +93,7 @@ greatest_are_found (suc steps) most p (k ∷ ks) enough (least, within, other, (
           ap (λ n. factors_within (suc steps) n p) (sym same) ∙ factor_found steps k p q least (product_divides k p q (omega arith) e) ∙ ap (option_map (λ ns. k ∷ ns)) (greatest_are_found steps k q ks (omega arith) rest)
     ]
 
-pub greatest_multiply : (most : ℕ) (p ks : List ℕ) → AreGreatest most p ks → FallFrom most ks × (product_of_intervals ks ≡ p)
+greatest_multiply : (most : ℕ) (p ks : List ℕ) → AreGreatest most p ks → FallFrom most ks × (product_of_intervals ks ≡ p)
 greatest_multiply most p [] h = (tt, sym h)
 greatest_multiply most p (k ∷ ks) (least, within, other, (q, e, rest)) =
     let (fall, product) = greatest_multiply k q ks rest in

@@ -1,11 +1,12 @@
 -- The steps by which the factors of a polynomial are found.
-use Rattle.std.proofs.Common.{◌≡◌, ℕ, zero, suc, ◌+◌, ◌-◌, ◌<◌, ◌≤◌, true, false, cond, List, [], ◌∷◌, ◌++◌, length, take, refl, sym, ◌∙◌, ap, arith, append_assoc, Some, None, nat_lt}
+use Rattle.std.proofs.Common.{◌≡◌, ℕ, zero, suc, ◌+◌, ◌-◌, ◌<◌, ◌≤◌, true, false, cond, List, [], ◌∷◌, ◌++◌, length, take, refl, sym, ◌∙◌, ap, arith, Some, None, nat_lt}
 use Rattle.std.specs.Prelude.{Option, option_map}
 use Rattle.std.specs.Option.{MatchOption}
 use Rattle.std.proofs.lemmas.Bool.Decides.{nat_tests}
+use Rattle.std.proofs.lemmas.Iterator.Adapters.{option_map_id}
 use Rattle.nichols_graded.specs.Factors.{quotient, factors_within, is_one, series_of, factors_of}
 use Rattle.std.proofs.lemmas.List.{length-take-le}
-use Rattle.nichols_graded.proofs.Division.{quotient_length}
+use Rattle.nichols_graded.proofs.Division.{front_more, quotient_length}
 
 pub factor_found : (steps k : ℕ) (p q : List ℕ) → 2 ≤ k → quotient k p ≡ Some q → factors_within (suc steps) k p ≡ option_map (λ ks. k ∷ ks) (factors_within steps k q)
 unfolding factors_within
@@ -33,15 +34,11 @@ last_factors steps k p less =
 abbrev pub AreFoundUpTo : Option (List ℕ) → List ℕ → ℕ → List ℕ → Type 0
 AreFoundUpTo all found k p = (steps : ℕ) × (k + length p < steps) × (all ≡ option_map (λ ks. found ++ ks) (factors_within steps k p))
 
-further : (found : List ℕ) (k : ℕ) (o : Option (List ℕ)) → option_map (λ ks. found ++ ks) (option_map (λ ks. k ∷ ks) o) ≡ option_map (λ ks. (found ++ k ∷ []) ++ ks) o
-further found k None = refl
-further found k (Some ks) = ap Some (sym (append_assoc found (k ∷ []) ks))
-
 pub found_next : (all : Option (List ℕ)) (found : List ℕ) (k : ℕ) (p q : List ℕ) → 2 ≤ k → quotient k p ≡ Some q → AreFoundUpTo all found k p → AreFoundUpTo all (found ++ k ∷ []) k q
 found_next all found k p q some e (zero, below, is) = absurd (omega arith)
 found_next all found k p q some e (suc steps, below, is) =
     let shorter : length p ≡ length q + (k - 1) = quotient_length k p q (omega arith) e in
-    (steps, omega arith, is ∙ ap (option_map (λ ks. found ++ ks)) (factor_found steps k p q some e) ∙ further found k (factors_within steps k q))
+    (steps, omega arith, is ∙ ap (option_map (λ ks. found ++ ks)) (factor_found steps k p q some e) ∙ front_more found k (factors_within steps k q))
 
 pub found_none : (all : Option (List ℕ)) (found : List ℕ) (k : ℕ) (p : List ℕ) → 2 ≤ k → quotient k p ≡ None → AreFoundUpTo all found k p → AreFoundUpTo all found (k - 1) p
 found_none all found k p some e (zero, below, is) = absurd (omega arith)
@@ -60,13 +57,9 @@ found_first dimensions p cut k found at is most none =
       omega arith,
       ap (λ q. factors_within (suc (length dimensions + length dimensions)) (length q) q) (sym series)
           ∙ ap (λ n. factors_within (suc (length dimensions + length dimensions)) n p) (sym most)
-          ∙ nothing (factors_within (suc (length dimensions + length dimensions)) k p)
+          ∙ sym (option_map_id (factors_within (suc (length dimensions + length dimensions)) k p))
           ∙ ap (λ f. option_map (λ ks. f ++ ks) (factors_within (suc (length dimensions + length dimensions)) k p)) (sym none),
     )
-  where
-    nothing : (o : Option (List ℕ)) → o ≡ option_map (λ ks. [] ++ ks) o
-    nothing None = refl
-    nothing (Some ks) = refl
 
 -- ---- one division, as the loop sees it
 

@@ -1,19 +1,19 @@
 -- Degrees over the symmetrizer, from the rules of the derivations; the end that is reached.
 use Rattle.std.proofs.Common.{◌≡◌, ℕ, suc, ◌≤◌, Bool, true, false, cond, List, [], ◌∷◌, length, map, refl, sym, ◌∙◌, ap, subst, arith, nat_lt}
-use Rattle.std.specs.Prelude.{Option, None, Some, is_some, filter, IsTrue, ◌↔◌}
+use Rattle.std.specs.Prelude.{Option, None, Some, is_some, IsTrue, ◌↔◌}
 use Rattle.std.specs.List.{Contains}
 use Rattle.std.proofs.lemmas.Bool.Decides.{Decides-eqb, nat_tests}
 use Rattle.std.proofs.lemmas.List.{nil_from_length}
-use Rattle.nichols_tensor.specs.Words.{words}
 use Rattle.nichols_braid.specs.declared.TheConstants.{MOST_DEGREES, MOST_ROWS}
 use Rattle.nichols_braid.specs.Braid.{BraidValue, IsBraid}
 use Rattle.nichols_braid.specs.Kernel.{is_in_kernel, is_killed}
-use Rattle.nichols_braid.specs.Least.{basis, candidates}
-use Rattle.nichols_braid.specs.Product.{product_of, has_product}
-use Rattle.nichols_braid.specs.Products.{each_once, products, rows}
+use Rattle.nichols_braid.specs.Least.{basis}
+use Rattle.nichols_braid.specs.Product.{product_of}
+use Rattle.nichols_braid.specs.Products.{products, rows}
 use Rattle.nichols_braid.specs.End.{dimension, is_empty_degree}
 use Rattle.nichols_braid.proofs.EndLaws.{in_finished}
-use Rattle.nichols_braid.proofs.FirstDegree.{basis_first}
+use Rattle.nichols_braid.proofs.FirstDegree.{basis_first, first_rows}
+use Rattle.nichols_braid.proofs.NextProducts.{products_first}
 use Rattle.nichols_lift.proofs.Readings.{one_reading}
 use Rattle.nichols_graded.specs.declared.ahead.Ahead.{Ahead}
 use Rattle.nichols_graded.specs.declared.ahead.Ahead.TheVariants as ahead
@@ -23,7 +23,8 @@ use Rattle.nichols_graded.specs.declared.ends.Stop.TheVariants.{Rows}
 use Rattle.nichols_graded.specs.Ends.{rows_stop, rows_of_products, stops_at, finished_degrees, end_reached}
 use Rattle.nichols_block.specs.Levels.{LevelsValue}
 use Rattle.nichols_graded.specs.declared.ends.End.{End}
-use Rattle.nichols_graded.specs.Graded.{GradedValue, IsGraded, IsAhead, end_known, graded_value}
+use Rattle.nichols_graded.specs.Ahead.{IsAhead, end_known}
+use Rattle.nichols_graded.specs.Graded.{GradedValue, IsGraded, graded_value}
 use Rattle.nichols_graded.proofs.EndLaws.{stop_by_rows, free_is_within, free_if_finished, next_is_finished, end_closed, end_stopped, end_none}
 
 -- ---- empty degrees
@@ -42,28 +43,10 @@ pub closed_is : (braid : BraidValue) → IsBraid braid → (m : ℕ) (b : Bool) 
 closed_is braid is m true h = sym (empty_is braid is m (h.0 refl))
 closed_is braid is m false h = sym (filled_is braid is m (λ e. let t : false ≡ true = h.1 e in cc))
 
-pub first_is_filled : (braid : BraidValue) → IsBraid braid → is_empty_degree is_in_kernel braid 0 ≡ false
+first_is_filled : (braid : BraidValue) → IsBraid braid → is_empty_degree is_in_kernel braid 0 ≡ false
 first_is_filled braid is = filled_is braid is 0 (λ none. let c : [] ∷ [] ≡ [] = sym (basis_first braid is.field) ∙ none in cc)
 
 -- ---- degree 0
-
-abbrev kept_if : Bool → List (List ℕ)
-kept_if b = cond b ([] ∷ []) []
-
-few_kept : (b : Bool) → length (kept_if b) ≤ 1
-few_kept true = omega arith
-few_kept false = omega arith
-
-few_of_one : (p : List ℕ → Bool) → length (filter p ([] ∷ [])) ≤ 1
-few_of_one p = few_kept (p [])
-
-few_first_rows : (braid : BraidValue) (g : List ℕ) → rows is_in_kernel braid 0 g ≤ 1
-unfolding rows candidates
-few_first_rows braid g = few_of_one (has_product braid g)
-
-first_products : (braid : BraidValue) → products braid 0 ≡ product_of braid [] ∷ []
-unfolding products each_once words
-first_products braid = refl
 
 one_row_stop : (limit m number count : ℕ) → count ≤ limit → rows_stop limit m number (count ∷ []) ≡ None
 unfolding rows_stop
@@ -72,10 +55,10 @@ one_row_stop limit m number count few = ap (λ b. cond b (Some (Rows m number co
 first_is_free : (braid : BraidValue) (limit rows_limit : ℕ) → 1 ≤ rows_limit → stops_at braid limit rows_limit 0 ≡ None
 unfolding rows_of_products
 first_is_free braid limit rows_limit some =
-    let one : length (products braid 0) ≡ 1 = ap length (first_products braid) in
-    let few : rows is_in_kernel braid 0 (product_of braid []) ≤ 1 = few_first_rows braid (product_of braid []) in
+    let one : length (products braid 0) ≡ 1 = ap length (products_first braid) in
+    let few : rows is_in_kernel braid 0 (product_of braid []) ≤ 1 = first_rows is_in_kernel braid (product_of braid []) in
     stop_by_rows braid limit rows_limit 0 (omega arith) (omega arith)
-    ∙ ap (λ gs. rows_stop rows_limit 0 1 (map (rows is_in_kernel braid 0) gs)) (first_products braid)
+    ∙ ap (λ gs. rows_stop rows_limit 0 1 (map (rows is_in_kernel braid 0) gs)) (products_first braid)
     ∙ one_row_stop rows_limit 0 1 (rows is_in_kernel braid 0 (product_of braid [])) (omega arith)
 
 -- ---- what holds between calls
@@ -102,7 +85,7 @@ pub next_within : (g : GradedValue) → IsGraded g → stops_at g.braid g.limit 
 next_within g h free = let within : suc g.last ≤ g.limit = free_is_within g.braid g.limit g.rows (suc g.last) free in let most = h.most in omega arith
 
 -- where the end was not reached the next degree is finished, if nothing stops it
-pub next_finished : (g : GradedValue) → IsGraded g → g.ended ≡ false → stops_at g.braid g.limit g.rows (suc g.last) ≡ None → Contains (finished_degrees g.braid g.limit g.rows) (suc g.last)
+next_finished : (g : GradedValue) → IsGraded g → g.ended ≡ false → stops_at g.braid g.limit g.rows (suc g.last) ≡ None → Contains (finished_degrees g.braid g.limit g.rows) (suc g.last)
 next_finished g h going free = next_is_finished g.braid (stops_at g.braid g.limit g.rows) g.last (next_within g h free) h.finished (h.going going) free
 
 -- and otherwise that is the end
@@ -110,7 +93,7 @@ pub stop_ends : (g : GradedValue) (stop : Stop) → IsGraded g → g.ended ≡ f
 stop_ends g stop h going e = end_stopped g.braid g.limit g.rows g.last stop h.finished (h.going going) e
 
 -- the end after a finished degree, from what is known of the next
-pub known_end : (braid : BraidValue) (limit rows_limit m : ℕ) (next : Ahead) → limit ≤ MOST_DEGREES → Contains (finished_degrees braid limit rows_limit) m → IsAhead braid limit rows_limit (suc m) next →
+known_end : (braid : BraidValue) (limit rows_limit m : ℕ) (next : Ahead) → limit ≤ MOST_DEGREES → Contains (finished_degrees braid limit rows_limit) m → IsAhead braid limit rows_limit (suc m) next →
     end_known (is_empty_degree is_in_kernel braid m) next ≡ end_reached braid limit rows_limit m
 known_end braid limit rows_limit m next most i known = at (is_empty_degree is_in_kernel braid m) refl next known
   where
@@ -123,7 +106,7 @@ filled_if_going : (b : Bool) (next : Ahead) → is_some (end_known b next) ≡ f
 filled_if_going true next e = let c : true ≡ false = e in cc
 filled_if_going false next e = refl
 
-pub graded_next : (g : GradedValue) (next : Ahead) → IsGraded g → g.ended ≡ false → stops_at g.braid g.limit g.rows (suc g.last) ≡ None →
+graded_next : (g : GradedValue) (next : Ahead) → IsGraded g → g.ended ≡ false → stops_at g.braid g.limit g.rows (suc g.last) ≡ None →
     IsGraded (record g { last = suc g.last; ended = is_some (end_known (is_empty_degree is_in_kernel g.braid (suc g.last)) next) })
 graded_next g next h going free = record {
   braid = h.braid;
@@ -133,10 +116,6 @@ graded_next g next h going free = record {
   finished = next_finished g h going free;
   going = λ e. filled_if_going (is_empty_degree is_in_kernel g.braid (suc g.last)) next e;
 }
-
--- a graded algebra that was ended
-pub graded_ended : (g : GradedValue) → IsGraded g → IsGraded (record g { ended = true })
-graded_ended g h = record { braid = h.braid; most = h.most; some_rows = h.some_rows; few_rows = h.few_rows; finished = h.finished; going = λ e. let c : true ≡ false = e in cc }
 
 -- ---- what is known of a degree
 

@@ -2,11 +2,10 @@ mod Division
 pub mod EndLaws
 pub mod FactorLaws
 mod FactorSteps
-pub mod FinishedDegrees
-mod LookingAhead
-pub mod SplitLists
+mod FinishedDegrees
+mod SplitLists
 mod RowStops
-pub mod WholeBlocks
+mod DegreeStops
 mod BlockSizes
 mod DegreeLists
-pub mod MadeRules
+mod WaveRules

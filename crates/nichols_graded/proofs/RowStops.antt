@@ -1,8 +1,9 @@
 -- The first product of too many rows.
-use Rattle.std.proofs.Common.{◌≡◌, ℕ, zero, suc, ◌+◌, ◌<◌, ◌≤◌, true, false, cond, List, [], ◌∷◌, length, drop, get_or, refl, sym, ◌∙◌, ap, arith, nat_lt}
+use Rattle.std.proofs.Common.{◌≡◌, ℕ, suc, ◌+◌, ◌<◌, ◌≤◌, true, false, cond, List, length, drop, get_or, sym, ◌∙◌, ap, arith, nat_lt}
 use Rattle.std.specs.Prelude.{None, Some}
 use Rattle.std.proofs.Math.Seq.{drop-cons}
 use Rattle.std.proofs.lemmas.Bool.Decides.{nat_tests}
+use Rattle.std.proofs.lemmas.List.{drop_all}
 use Rattle.nichols_graded.specs.declared.ends.Stop.TheVariants.{Rows}
 use Rattle.nichols_graded.specs.Ends.{rows_stop}
 
@@ -27,9 +28,3 @@ row_within limit m k counts less few =
 pub rows_end : (limit m k : ℕ) (counts : List ℕ) → length counts ≤ k → rows_stop limit m (suc k) (drop k counts) ≡ None
 unfolding rows_stop
 rows_end limit m k counts most = ap (rows_stop limit m (suc k)) (drop_all k counts most)
-  where
-    drop_all : (n : ℕ) (ns : List ℕ) → length ns ≤ n → drop n ns ≡ []
-    drop_all zero [] h = refl
-    drop_all zero (x ∷ ns) h = absurd (omega arith)
-    drop_all (suc n) [] h = refl
-    drop_all (suc n) (x ∷ ns) h = drop_all n ns (omega arith)

@@ -1,5 +1,5 @@
 -- Lists of words, or of what has a word each, that are split by product and sorted again.
-use Rattle.std.proofs.Common.{◌≡◌, ℕ, suc, ◌+◌, Bool, true, false, cond, List, [], ◌∷◌, ◌++◌, length, map, filter, flat_map, get_or, refl, sym, ◌∙◌, ap, ap₂, subst, arith, inl, inr, ◌⊎◌}
+use Rattle.std.proofs.Common.{◌≡◌, ℕ, suc, ◌+◌, true, false, cond, List, [], ◌∷◌, length, map, filter, flat_map, get_or, refl, sym, ◌∙◌, ap, ap₂, subst, arith, inl, inr, ◌⊎◌}
 use Rattle.std.specs.List.{AllByRecursion, Contains, IsDistinct, sum_by}
 use Rattle.std.specs.List.Sorted.{IsPermutation, IsSortedByKey}
 use Rattle.std.specs.Ordering.{is_lt}
@@ -16,14 +16,16 @@ use Rattle.std.specs.Cmp.Lexicographic.{same_text}
 use Rattle.nichols_tensor.proofs.Order.{same_word, less_back, greater_back, less_is_other}
 use Rattle.nichols_tensor.proofs.Rising.{rising_kept, stands_after}
 use Rattle.nichols_tensor.proofs.Tests.{all_of_entries}
-use Rattle.nichols_tensor.proofs.Over.{all_at, all-append}
+use Rattle.nichols_tensor.proofs.Over.{all_at}
 use Rattle.nichols_tensor.proofs.Values.{same_itself, same_back}
 use Rattle.nichols_braid.specs.Braid.{BraidValue}
 use Rattle.nichols_braid.specs.Product.{has_product, product_of}
+use Rattle.nichols_braid.proofs.Permutations.{apart_is_false, distinct-append}
+use Rattle.nichols_braid.proofs.ProductListLaws.{counted, same_sum}
 
 -- ---- lists with rising keys and the same entries are one
 
-pub keys_unique : {X : Type 0} (key : X → List ℕ) (xs ys : List X) → IsRising (map key xs) → IsRising (map key ys) → ((x : X) → Contains xs x → Contains ys x) → ((x : X) → Contains ys x → Contains xs x) → xs ≡ ys
+keys_unique : {X : Type 0} (key : X → List ℕ) (xs ys : List X) → IsRising (map key xs) → IsRising (map key ys) → ((x : X) → Contains xs x → Contains ys x) → ((x : X) → Contains ys x → Contains xs x) → xs ≡ ys
 keys_unique key [] [] r s h k = refl
 keys_unique key [] (y ∷ ys) r s h k = absurd (contains_none y (k y (contains_first y ys)))
 keys_unique key (x ∷ xs) [] r s h k = absurd (contains_none x (h x (contains_first x xs)))
@@ -46,27 +48,11 @@ keys_unique {X} key (x ∷ xs) (y ∷ ys) r s h k =
 
 -- ---- words that differ
 
-letters_same : (v w : List ℕ) → same_letters v w ≡ true → v ≡ w
-letters_same v w e = same_text v w (sym e)
-
-differ : (v w : List ℕ) → (v ≡ w → ⊥) → same_letters v w ≡ false
-differ v w other = at (same_letters v w) refl
-  where
-    at : (b : Bool) → same_letters v w ≡ b → b ≡ false
-    at true e = absurd (other (letters_same v w e))
-    at false e = refl
-
-pub rising_distinct : (ws : List (List ℕ)) → IsRising ws → IsDistinct same_letters ws
+rising_distinct : (ws : List (List ℕ)) → IsRising ws → IsDistinct same_letters ws
 unfolding IsDistinct
 rising_distinct [] r = tt
 rising_distinct (w ∷ ws) r =
-    (all_of_entries (λ v. same_letters w v ≡ false) ws (λ v i. differ w v (λ e. less_is_other w v (stands_after [] w ws v r i) e)), rising_distinct ws r.1)
-
-distinct-append : (vs ws : List (List ℕ)) → IsDistinct same_letters vs → IsDistinct same_letters ws → ((v w : List ℕ) → Contains vs v → Contains ws w → same_letters v w ≡ false) → IsDistinct same_letters (vs ++ ws)
-unfolding IsDistinct
-distinct-append [] ws p q h = q
-distinct-append (v ∷ vs) ws p q h =
-    (all-append (λ w. same_letters v w ≡ false) vs ws p.0 (all_of_entries (λ w. same_letters v w ≡ false) ws (λ w i. h v w (contains_first v vs) i)), distinct-append vs ws p.1 q (λ x w i j. h x w (contains_later v vs x i) j))
+    (all_of_entries (λ v. same_letters w v ≡ false) ws (λ v i. apart_is_false w v (λ e. less_is_other w v (stands_after [] w ws v r i) e)), rising_distinct ws r.1)
 
 -- sorted keys that differ rise
 sorted_rises : {X : Type 0} (key : X → List ℕ) (xs : List X) → IsSortedByKey key word_cmp xs → IsDistinct same_letters (map key xs) → IsRising (map key xs)
@@ -95,7 +81,7 @@ in_part : {X : Type 0} (key : X → List ℕ) (braid : BraidValue) (all : List X
 in_part key braid all x i = in_filter (λ y. has_product braid (product_of braid (key x)) (key y)) x all i (same_itself (product_of braid (key x)))
 
 from_part : {X : Type 0} (key : X → List ℕ) (braid : BraidValue) (all : List X) (g : List ℕ) (x : X) → Contains (part_with key braid all g) x → Contains all x × (product_of braid (key x) ≡ g)
-from_part key braid all g x i = let (j, has) = from_filter (λ y. has_product braid g (key y)) x all i in (j, letters_same (product_of braid (key x)) g has)
+from_part key braid all g x i = let (j, has) = from_filter (λ y. has_product braid g (key y)) x all i in (j, same_text (product_of braid (key x)) g (sym has))
 
 parts_distinct : {X : Type 0} (key : X → List ℕ) (braid : BraidValue) (all : List X) (gs : List (List ℕ)) → IsRising (map key all) → IsDistinct same_letters gs → IsDistinct same_letters (map key (flat_map (part_with key braid all) gs))
 unfolding IsDistinct
@@ -109,7 +95,7 @@ parts_distinct {X} key braid all (g ∷ gs) r d =
         let (x, here, v_is) = from_map key v (part_with key braid all g) i in
         let (y, there, w_is) = from_map key w (flat_map (part_with key braid all) gs) j in
         let (h, listed, in_h) = from_flat_map (part_with key braid all) y gs there in
-        differ v w (λ same.
+        apart_is_false v w (λ same.
         let g_is : product_of braid v ≡ g = ap (product_of braid) v_is ∙ (from_part key braid all g x here).1 in
         let h_is : product_of braid w ≡ h = ap (product_of braid) w_is ∙ (from_part key braid all h y in_h).1 in
         let one : g ≡ h = sym g_is ∙ ap (product_of braid) same ∙ h_is in
@@ -128,51 +114,28 @@ sorted_parts {X} key braid gs all out d listed r p s =
 -- ---- how many there are
 
 -- in a list without repeats each entry stands once
-once_none : (h : List ℕ) (gs : List (List ℕ)) → AllByRecursion (λ g. same_letters h g ≡ false) gs → sum_by (λ g. cond (same_letters h g) 1 0) gs ≡ 0
+once_none : (h : List ℕ) (gs : List (List ℕ)) → AllByRecursion (λ g. same_letters h g ≡ false) gs → length (filter (same_letters h) gs) ≡ 0
 once_none h [] none = refl
-once_none h (g ∷ gs) none = sum_by-cons (λ g. cond (same_letters h g) 1 0) g gs ∙ ap₂ (λ b n. cond b 1 0 + n) none.0 (once_none h gs none.1)
+once_none h (g ∷ gs) none = ap (λ b. length (cond b (g ∷ filter (same_letters h) gs) (filter (same_letters h) gs))) none.0 ∙ once_none h gs none.1
 
-once_there : (h : List ℕ) (gs : List (List ℕ)) → IsDistinct same_letters gs → Contains gs h → sum_by (λ g. cond (same_letters h g) 1 0) gs ≡ 1
+once_there : (h : List ℕ) (gs : List (List ℕ)) → IsDistinct same_letters gs → Contains gs h → length (filter (same_letters h) gs) ≡ 1
 unfolding IsDistinct
 once_there h [] d i = absurd (contains_none h i)
 once_there h (g ∷ gs) d i = at (contains_cases g gs h i) (once_there h gs d.1)
   where
-    at : (h ≡ g) ⊎ Contains gs h → (Contains gs h → sum_by (λ k. cond (same_letters h k) 1 0) gs ≡ 1) → sum_by (λ k. cond (same_letters h k) 1 0) (g ∷ gs) ≡ 1
+    at : (h ≡ g) ⊎ Contains gs h → (Contains gs h → length (filter (same_letters h) gs) ≡ 1) → length (filter (same_letters h) (g ∷ gs)) ≡ 1
     at (inl same) rest =
-        sum_by-cons (λ k. cond (same_letters h k) 1 0) g gs
-        ∙ ap₂ (λ b n. cond b 1 0 + n) (ap (same_letters h) (sym same) ∙ same_itself h)
-        (once_none h gs (subst (λ k. AllByRecursion (λ x. same_letters k x ≡ false) gs) (sym same) d.0))
+        ap (λ b. length (cond b (g ∷ filter (same_letters h) gs) (filter (same_letters h) gs))) (ap (same_letters h) (sym same) ∙ same_itself h)
+        ∙ ap suc (once_none h gs (subst (λ k. AllByRecursion (λ x. same_letters k x ≡ false) gs) (sym same) d.0))
     at (inr later) rest =
-        sum_by-cons (λ k. cond (same_letters h k) 1 0) g gs
-        ∙ ap₂ (λ b n. cond b 1 0 + n) (same_back h g ∙ all_at (λ k. same_letters g k ≡ false) gs h d.0 later) (rest later)
+        ap (λ b. length (cond b (g ∷ filter (same_letters h) gs) (filter (same_letters h) gs))) (same_back h g ∙ all_at (λ k. same_letters g k ≡ false) gs h d.0 later) ∙ rest later
 
-sum_plus : (f h : List ℕ → ℕ) (gs : List (List ℕ)) → sum_by (λ g. f g + h g) gs ≡ sum_by f gs + sum_by h gs
-sum_plus f h [] = refl
-sum_plus f h (g ∷ gs) =
-    let e = sum_plus f h gs in
-    let whole = sum_by-cons (λ k. f k + h k) g gs in
-    let left = sum_by-cons f g gs in
-    let right = sum_by-cons h g gs in
-    omega (arith, e, whole, left, right)
-
-sum_same : (f h : List ℕ → ℕ) (gs : List (List ℕ)) → ((g : List ℕ) → f g ≡ h g) → sum_by f gs ≡ sum_by h gs
-sum_same f h [] e = refl
-sum_same f h (g ∷ gs) e = sum_by-cons f g gs ∙ ap₂ (λ n m. n + m) (e g) (sum_same f h gs e) ∙ sym (sum_by-cons h g gs)
-
-sum_zero : (gs : List (List ℕ)) → sum_by (λ g. 0) gs ≡ 0
-sum_zero [] = refl
-sum_zero (g ∷ gs) = sum_by-cons (λ k. 0) g gs ∙ ap (λ n. 0 + n) (sum_zero gs)
-
-length_kept : {X : Type 0} (b : Bool) (x : X) (xs : List X) → length (cond b (x ∷ xs) xs) ≡ cond b 1 0 + length xs
-length_kept true x xs = omega arith
-length_kept false x xs = omega arith
+counted_once : {X : Type 0} (xs : List X) → sum_by (λ x. 1) xs ≡ length xs
+counted_once [] = refl
+counted_once (x ∷ xs) = sum_by-cons (λ y. 1) x xs ∙ (let rest = counted_once xs in omega (arith, rest))
 
 pub parts_count : {X : Type 0} (key : X → List ℕ) (braid : BraidValue) (gs : List (List ℕ)) (all : List X) → IsDistinct same_letters gs → ((x : X) → Contains all x → Contains gs (product_of braid (key x))) →
     sum_by (λ g. length (part_with key braid all g)) gs ≡ length all
-parts_count key braid gs [] d listed = sum_zero gs
-parts_count key braid gs (x ∷ xs) d listed =
-    let rest = parts_count key braid gs xs d (λ y i. listed y (contains_later x xs y i)) in
-    let one = once_there (product_of braid (key x)) gs d (listed x (contains_first x xs)) in
-    sum_same (λ g. length (part_with key braid (x ∷ xs) g)) (λ g. cond (same_letters (product_of braid (key x)) g) 1 0 + length (part_with key braid xs g)) gs
-    (λ g. length_kept (has_product braid g (key x)) x (part_with key braid xs g))
-    ∙ sum_plus (λ g. cond (same_letters (product_of braid (key x)) g) 1 0) (λ g. length (part_with key braid xs g)) gs ∙ ap₂ (λ n m. n + m) one rest ∙ (let e : 1 + length xs ≡ suc (length xs) = omega arith in e)
+parts_count key braid gs all d listed =
+    counted (λ g x. has_product braid g (key x)) gs all
+    ∙ same_sum (λ x. length (filter (same_letters (product_of braid (key x))) gs)) (λ x. 1) all (λ x i. once_there (product_of braid (key x)) gs d (listed x i)) ∙ counted_once all

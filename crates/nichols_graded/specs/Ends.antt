@@ -5,7 +5,7 @@ use Rattle.nichols_braid.specs.declared.TheConstants.{MOST_PRODUCTS}
 use Rattle.nichols_braid.specs.Braid.{BraidValue}
 use Rattle.nichols_braid.specs.Kernel.{is_in_kernel}
 use Rattle.nichols_braid.specs.Products.{products, rows}
-use Rattle.nichols_braid.specs.End.{dimension, finished, stop_of}
+use Rattle.nichols_braid.specs.End.{dimension, degrees_finished, stop_of}
 use Rattle.nichols_graded.specs.declared.ends.End.{End}
 use Rattle.nichols_graded.specs.declared.ends.End.TheVariants.{Closed, Stopped}
 use Rattle.nichols_graded.specs.declared.ends.Stop.{Stop}
@@ -29,7 +29,7 @@ stops_at braid limit rows_limit m =
 
 -- the degrees that are finished under a degree limit and a rows limit
 abbrev pub finished_degrees : BraidValue → ℕ → ℕ → List ℕ
-finished_degrees braid limit rows_limit = finished is_in_kernel braid (stops_at braid limit rows_limit)
+finished_degrees braid limit rows_limit = degrees_finished is_in_kernel braid (stops_at braid limit rows_limit)
 
 -- the end, by what stops the algebra, if anything does
 abbrev pub end_by : Option Stop → End

@@ -4,15 +4,15 @@ use Rattle.std.specs.Prelude.{ℕ, zero, suc, ◌+◌, ◌-◌, Bool, false, Lis
 use Rattle.std.specs.List.{list_all}
 
 -- the sum of two polynomials
-unfoldable pub added : List ℕ → List ℕ → List ℕ
-added [] q = q
-added (a ∷ p) [] = a ∷ p
-added (a ∷ p) (b ∷ q) = (a + b) ∷ added p q
+unfoldable pub polynomial_sum : List ℕ → List ℕ → List ℕ
+polynomial_sum [] q = q
+polynomial_sum (a ∷ p) [] = a ∷ p
+polynomial_sum (a ∷ p) (b ∷ q) = (a + b) ∷ polynomial_sum p q
 
 -- the product of (k) and q, where k is at least 1: of n coefficients it makes n + k - 1
 unfoldable pub times_interval : ℕ → List ℕ → List ℕ
 times_interval k [] = replicate (k - 1) 0
-times_interval k (a ∷ q) = added (replicate k a) (0 ∷ times_interval k q)
+times_interval k (a ∷ q) = polynomial_sum (replicate k a) (0 ∷ times_interval k q)
 
 -- long division by (k) from the constant term up, for a quotient of n coefficients: the first coefficient is one of the
 -- quotient, and is taken from the k - 1 behind it; none where the division leaves a rest, or needs a negative number

@@ -1,20 +1,14 @@
 -- An algebra up to its last finished degree, as contracts see it.
-use Rattle.std.specs.Prelude.{◌≡◌, ◌⊎◌, ℕ, suc, ◌≤◌, map, Bool, true, false, Option, None, Some}
+use Rattle.std.specs.Prelude.{◌≡◌, ◌⊎◌, ℕ, ◌≤◌, Bool, false, Option, Some}
 use Rattle.std.specs.List.{Contains}
 use Rattle.nichols_braid.specs.declared.TheConstants.{MOST_DEGREES, MOST_ROWS}
 use Rattle.nichols_braid.specs.Braid.{BraidValue, IsBraid}
 use Rattle.nichols_braid.specs.Kernel.{is_in_kernel}
 use Rattle.nichols_braid.specs.End.{is_empty_degree}
-use Rattle.nichols_braid.specs.Products.{products, rows}
-use Rattle.nichols_value.specs.declared.value.BlockValue.TheVariants.{Rule}
-use Rattle.nichols_value.specs.Worth.{worth}
-use Rattle.nichols_block.specs.Levels.{LevelsValue, rules_of}
-use Rattle.nichols_graded.specs.declared.ahead.Ahead.{Ahead}
-use Rattle.nichols_graded.specs.declared.ahead.Ahead.TheVariants as ahead
-use Rattle.nichols_graded.specs.declared.next.NextDegree.{NextDegree}
+use Rattle.nichols_block.specs.Levels.{LevelsValue}
 use Rattle.nichols_graded.specs.declared.ends.End.{End}
-use Rattle.nichols_graded.specs.declared.ends.End.TheVariants.{Closed, Stopped, Starved}
-use Rattle.nichols_graded.specs.Ends.{end_reached, finished_degrees, stops_at}
+use Rattle.nichols_graded.specs.declared.ends.End.TheVariants.{Starved}
+use Rattle.nichols_graded.specs.Ends.{end_reached, finished_degrees}
 
 -- what contracts see: the braid, the limits, the last finished degree, and whether the end was reached
 pub record GradedValue : Type 0 where
@@ -37,22 +31,6 @@ pub record IsGraded (g : GradedValue) : Type 0 where
   pub finished : Contains (finished_degrees g.braid g.limit g.rows) g.last
   pub going : g.ended ≡ false → is_empty_degree is_in_kernel g.braid g.last ≡ false
 
--- what is known of degree m: what stops it, or its products
-abbrev pub IsAhead : BraidValue → ℕ → ℕ → ℕ → Ahead → Type 0
-IsAhead braid limit rows m (ahead.Stopped stop) = stops_at braid limit rows m ≡ Some stop
-IsAhead braid limit rows m (ahead.Open ps) = (stops_at braid limit rows m ≡ None) × (ps ≡ products braid m)
-
--- degree m isn't stopped, and these are its products
-abbrev pub IsOpen : BraidValue → ℕ → Ahead → Type 0
-IsOpen braid m (ahead.Stopped stop) = ⊥
-IsOpen braid m (ahead.Open ps) = ps ≡ products braid m
-
--- the end after a finished degree, by whether it is empty and by what is known of the next
-abbrev pub end_known : Bool → Ahead → Option End
-end_known true next = Some Closed
-end_known false (ahead.Stopped stop) = Some (Stopped stop)
-end_known false (ahead.Open ps) = None
-
 -- degree 0 is finished
 abbrev pub first_degree : BraidValue → ℕ → ℕ → GradedValue
 first_degree braid limit rows = record { braid = braid; limit = limit; rows = rows; last = 0; ended = false }
@@ -61,8 +39,3 @@ first_degree braid limit rows = record { braid = braid; limit = limit; rows = ro
 -- it is the end, where it is reached
 abbrev pub TellsEnd : GradedValue → ℕ → Option End → Type 0
 TellsEnd g finished end = ((end ≡ Some Starved) × (finished ≡ 0)) ⊎ (end ≡ end_reached g.braid g.limit g.rows g.last)
-
--- the rules of the blocks of degree m, with what is known of the degree after it
-pub record IsNext (braid : BraidValue) (limit rows_limit m : ℕ) (next : NextDegree) : Type 0 where
-  pub rules : map worth next.values.items ≡ map Rule (rules_of braid m)
-  pub ahead : IsAhead braid limit rows_limit (suc m) next.ahead

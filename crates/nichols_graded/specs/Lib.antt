@@ -1,8 +1,10 @@
--- what contracts of this crate and of those above cite
+-- what public contracts cite
 pub mod Ends
 pub mod Factors
 pub mod Graded
-pub mod Rows
 -- the statements of the laws
 pub mod FactorLaws
 pub mod Laws
+-- what the crate's own functions cite
+pub mod Ahead
+pub mod Sizes

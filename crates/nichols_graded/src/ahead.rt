@@ -4,8 +4,8 @@ ghost use Rattle.std.specs.Prelude.{◌≡◌, ◌≤◌, IfOk, length, suc};
 ghost use Rattle.nichols_braid.specs.declared.TheConstants.{MOST_DEGREES, MOST_PRODUCTS};
 ghost use Rattle.nichols_braid.specs.Products.{products};
 ghost use Rattle.nichols_graded.specs.Ends.{rows_stop};
-ghost use Rattle.nichols_graded.specs.Graded.{IsAhead};
-ghost use Rattle.nichols_graded.specs.Rows.{AreSizes};
+ghost use Rattle.nichols_graded.specs.Ahead.{IsAhead};
+ghost use Rattle.nichols_graded.specs.Sizes.{AreSizes};
 
 use crate::counts::row_counts;
 use crate::ends::Stop;

@@ -8,7 +8,7 @@ ghost use Rattle.nichols_value.specs.declared.value.BlockValue.TheVariants.{Rule
 ghost use Rattle.nichols_value.specs.Worth.{worth};
 ghost use Rattle.nichols_block.specs.Levels.{rules_of};
 ghost use Rattle.nichols_crew.specs.Wave.{AreWithin};
-ghost use Rattle.nichols_graded.specs.Rows.{is_rule};
+ghost use Rattle.nichols_graded.specs.Sizes.{is_rule};
 
 use nichols_block::{BlockValue, Levels, Shared};
 use nichols_braid::Products;

@@ -1,12 +1,13 @@
 //! The number of candidates of each product.
 
-ghost use Rattle.std.specs.Prelude.{◌≡◌, ◌<◌, ◌≤◌, ◌^◌, ℕ, IfOk, length, map, slice_index, suc};
+ghost use Rattle.std.specs.Prelude.{◌≡◌, ◌<◌, ◌≤◌, ℕ, IfOk, length, map, slice_index, suc};
 ghost use Rattle.nichols_braid.specs.Kernel.{is_killed};
 ghost use Rattle.nichols_braid.specs.Product.{product_before};
 ghost use Rattle.nichols_braid.specs.Products.{products, rows};
 ghost use Rattle.nichols_value.specs.Block.{block_basis};
 ghost use Rattle.nichols_value.specs.Worth.{worth};
-ghost use Rattle.nichols_graded.specs.Rows.{AreSizes, size_of};
+ghost use Rattle.nichols_graded.specs.declared.TheConstants.{DIMENSION_BOUND};
+ghost use Rattle.nichols_graded.specs.Sizes.{AreSizes, size_of};
 
 use nichols_block::{BlockValue, Shared};
 use nichols_braid::{Braid, Product, Products};
@@ -15,7 +16,7 @@ use std::alloc::{AllocError, Global};
 /// The number of least words of a block, where the value is its rule.
 fn size_of(value: &Shared) -> u64
     ensures value { result ≡ size_of (worth value.now) }
-    ensures small { result < 2 ^ 57 }
+    ensures small { result < DIMENSION_BOUND }
 {
     match value.get() {
         Some(BlockValue::Rule(rule)) => rule.basis().len() as u64,
@@ -26,7 +27,7 @@ fn size_of(value: &Shared) -> u64
 /// The numbers of least words of blocks.
 pub(crate) fn sizes_of(alloc: Global, values: &[Shared]) -> Result<Vec<u64>, AllocError>
     ensures sizes { IfOk result (λ r. r.items ≡ map (λ v. size_of (worth v)) values.now) }
-    ensures small { IfOk result (λ r. (k : ℕ) → slice_index r.items k < 2 ^ 57) }
+    ensures small { IfOk result (λ r. (k : ℕ) → slice_index r.items k < DIMENSION_BOUND) }
 {
     let mut sizes = Vec::new(alloc);
     for value in values {
@@ -50,7 +51,7 @@ fn size_before(
     requires some { 1 ≤ letter }
     requires most { letter ≤ braid.now.letters }
     ensures value { result ≡ length (block_basis braid.now degree (product_before braid.now letter product.now)) }
-    ensures small { result < 2 ^ 57 }
+    ensures small { result < DIMENSION_BOUND }
 {
     match below.find(&product.back(braid, letter)) {
         Some(k) => sizes[k],

@@ -8,9 +8,11 @@ ghost use Rattle.nichols_braid.specs.End.{dimension, is_empty_degree};
 ghost use Rattle.nichols_value.specs.declared.value.BlockValue.TheVariants.{Rule};
 ghost use Rattle.nichols_value.specs.Worth.{worth};
 ghost use Rattle.nichols_block.specs.Levels.{rules_of};
+ghost use Rattle.nichols_graded.specs.declared.TheConstants.{DIMENSION_BOUND};
 ghost use Rattle.nichols_graded.specs.Ends.{dimensions_up_to};
 ghost use Rattle.nichols_graded.specs.Factors.{factors_of};
-ghost use Rattle.nichols_graded.specs.Graded.{end_known, first_degree, IsGraded, IsOpen, TellsEnd};
+ghost use Rattle.nichols_graded.specs.Ahead.{end_known, IsOpen};
+ghost use Rattle.nichols_graded.specs.Graded.{first_degree, IsGraded, TellsEnd};
 
 use crate::ahead::Ahead;
 use crate::ends::{Advance, End};
@@ -37,7 +39,8 @@ pub struct Graded {
 
 impl Model for Graded {
     ghost use Rattle.std.specs.Prelude.{◌≡◌, suc, false};
-    ghost use Rattle.nichols_graded.specs.Graded.{GradedValue, IsAhead, IsGraded, graded_value};
+    ghost use Rattle.nichols_graded.specs.Ahead.{IsAhead};
+    ghost use Rattle.nichols_graded.specs.Graded.{GradedValue, IsGraded, graded_value};
 
     ghost Value = { GradedValue };
 
@@ -48,7 +51,8 @@ impl Model for Graded {
 }
 
 impl Graded {
-    /// The algebra of a braid with degree 0 finished; the degree limit is at most 60, and the rows limit 1 to `nichols_braid::MOST_ROWS`.
+    /// The algebra of a braid with degree 0 finished; the degree limit is at most [`nichols_braid::MOST_DEGREES`], and the rows limit 1 to
+    /// [`nichols_braid::MOST_ROWS`].
     pub fn start(
         alloc: Global,
         braid: Braid,
@@ -158,7 +162,7 @@ impl Graded {
     pub fn dimension(&self, m: u32) -> u64
         requires { m ≤ self.now.last }
         ensures value { result ≡ dimension is_in_kernel self.now.braid m }
-        ensures small { result < 2 ^ 57 }
+        ensures small { result < DIMENSION_BOUND }
     {
         let _levels = self.levels();
         let mut words = 0;

@@ -13,6 +13,9 @@ pub mod laws;
 mod merged;
 mod next;
 
+/// No dimension is as great: so many words have no room in memory.
+pub const DIMENSION_BOUND: u64 = 1 << 57;
+
 pub use ends::{Advance, End, Stop};
 pub use graded::Graded;
 

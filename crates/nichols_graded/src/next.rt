@@ -4,7 +4,7 @@ ghost use Rattle.std.specs.Prelude.{◌≡◌, ◌<◌, ◌≤◌, ⊤, IfOk, Ma
 ghost use Rattle.nichols_braid.specs.declared.TheConstants.{MOST_DEGREES, MOST_ROWS};
 ghost use Rattle.nichols_braid.specs.Products.{products};
 ghost use Rattle.nichols_crew.specs.Wave.{AreWithin};
-ghost use Rattle.nichols_graded.specs.Graded.{IsAhead, IsNext};
+ghost use Rattle.nichols_graded.specs.Ahead.{IsAhead, IsNext};
 
 use crate::ahead::{Ahead, look_ahead};
 use crate::blocks::next_values;

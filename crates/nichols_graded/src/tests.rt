@@ -1,7 +1,8 @@
 use super::*;
 use crate::factors::factors_of;
-use nichols_braid::{Braid, MOST_ROWS, Scalars};
+use nichols_braid::{Braid, MOST_DEGREES, MOST_ROWS, Scalars};
 use nichols_field::Field;
+use nichols_testing::{braid_with_constant, one_letter};
 use std::alloc::Global;
 use std::test::Fail;
 use std::thread::Threads;
@@ -9,27 +10,9 @@ use std::thread::Threads;
 /// The workers of these tests.
 const WORKERS: u32 = 2;
 
-/// The braid of a rack over p elements with one scalar at all places.
-fn constant(alloc: Global, p: i64, rack: &[Vec<i64>], scalar: i64) -> Result<Braid, Fail> {
-    let field = Field::new(p).map_err(|_| "no field")?;
-    let braid = Braid::new(alloc, field, rack, &Scalars::Constant(scalar)).map_err(|_| "no braid")?;
-    Ok(braid)
-}
-
-/// One letter with the scalar 2 over seven elements: the third power is zero.
-fn one_letter(alloc: Global) -> Result<Braid, Fail> {
-    let mut rack = Vec::new(alloc);
-    rack.push([1].as_slice().to_vec(alloc)?)?;
-    constant(alloc, 7, rack.as_slice(), 2)
-}
-
 /// Two letters that act alike, with the scalar 1 over 101 elements.
 fn two_letters(alloc: Global) -> Result<Braid, Fail> {
-    let mut rack = Vec::new(alloc);
-    for _ in 0..2 {
-        rack.push([1, 2].as_slice().to_vec(alloc)?)?;
-    }
-    constant(alloc, 101, rack.as_slice(), 1)
+    braid_with_constant(alloc, 101, &[&[1, 2], &[1, 2]], 1)
 }
 
 /// Three transpositions in each of eight groups; letters of different groups don't act on each other.
@@ -48,7 +31,11 @@ fn eight_groups(alloc: Global) -> Result<Braid, Fail> {
         }
         rack.push(row)?;
     }
-    constant(alloc, 101, rack.as_slice(), -1)
+    let field = Field::new(101).map_err(|_| "no field")?;
+    let braid = Braid::new(alloc, field, rack.as_slice(), &Scalars::Constant(-1)).map_err(
+        |_| "no braid",
+    )?;
+    Ok(braid)
 }
 
 #[test]
@@ -78,6 +65,18 @@ fn degrees_of_one_letter(rt: HostRuntime) -> Result<(), Fail> {
     Ok(())
 }
 
+/// What threads may share.
+fn is_shared<T: Send + Sync>(_shared: &T) {}
+
+#[test]
+fn an_algebra_may_be_shared(rt: HostRuntime) -> Result<(), Fail> {
+    let alloc = rt.alloc();
+    let graded = Graded::start(alloc, one_letter(alloc)?, 12, 1_024)?;
+    is_shared(&graded);
+    is_shared(graded.levels());
+    Ok(())
+}
+
 /// Makes degrees until the end, and compares the end and the dimensions.
 fn ends<R: Threads + Sync>(
     rt: &R,
@@ -87,11 +86,11 @@ fn ends<R: Threads + Sync>(
     dimensions: &[u64],
     end: End,
 ) -> Result<(), Fail> {
-    if limits.0 > 60 || limits.1 < 1 || limits.1 > MOST_ROWS {
+    if limits.0 > MOST_DEGREES || limits.1 < 1 || limits.1 > MOST_ROWS {
         return Err("limits out of range".into());
     }
     let mut graded = Graded::start(alloc, braid, limits.0, limits.1)?;
-    for _ in 0..61 {
+    for _ in 0..MOST_DEGREES + 1 {
         if graded.ended() {
             break;
         }
@@ -183,7 +182,7 @@ const FACTORS: [(&[u64], Option<&[u32]>); 12] = [
 fn factors(rt: HostRuntime) -> Result<(), Fail> {
     let alloc = rt.alloc();
     for (dimensions, factors) in FACTORS {
-        if dimensions.len() > 61 {
+        if dimensions.len() > MOST_DEGREES as usize + 1 {
             return Err("too long".into());
         }
         match (factors_of(alloc, dimensions)?, factors) {

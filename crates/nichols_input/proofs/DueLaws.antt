@@ -8,7 +8,7 @@ use Rattle.nichols_braid.specs.Braid.{BraidValue}
 use Rattle.nichols_braid.specs.GivenScalars.{GivenScalars, constant}
 use Rattle.nichols_braid.specs.Faults.{TableFault, braid_of}
 use Rattle.nichols_expression.specs.declared.faults.Cause.{Cause}
-use Rattle.nichols_input.specs.declared.TheConstants.{EXPRESSION_LIMIT}
+use Rattle.nichols_expression.specs.declared.TheConstants.{EXPRESSION_LIMIT}
 use Rattle.nichols_input.specs.declared.key.Key.{Key}
 use Rattle.nichols_input.specs.declared.key.Key.TheVariants.{Modulus, Rack, Cocycle, Expressions}
 use Rattle.nichols_input.specs.Keys.{needed_keys, known_keys, is_known}

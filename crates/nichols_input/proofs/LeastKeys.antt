@@ -1,20 +1,16 @@
 -- The first of rising texts that meets a test is the least that does.
-use Rattle.std.proofs.Common.{◌≡◌, zero, suc, Bool, true, false, cond, Ordering, Less, Equal, Greater, nat_cmp, is_lt, List, ◌∷◌, [], ℕ, Option, Some, None, refl, sym, ap, ◌∙◌, inl, inr, arith, ◌⊎◌}
+use Rattle.std.proofs.Common.{◌≡◌, suc, Bool, true, false, cond, Ordering, Less, Equal, Greater, nat_cmp, is_lt, List, ◌∷◌, [], ℕ, Option, Some, None, refl, sym, ap, ◌∙◌, inl, inr, arith}
+use Rattle.nichols_tensor.proofs.Entries.{contains_cases, finds}
 use Rattle.std.proofs.lemmas.Bool.{true≢false}
 use Rattle.std.proofs.lemmas.Cmp.{nat_list_cmp_total, tied_itself}
 use Rattle.std.proofs.lemmas.List.Elements.{All-contains, All-from_recursion}
 use Rattle.std.proofs.lemmas.Option.{none-some, same_Some}
 use Rattle.std.specs.Cmp.Lexicographic.{slice_cmp}
 use Rattle.std.specs.FinMap.{slice_cmp-IsAntisymmetric, nat_cmp-IsAntisymmetric}
-use Rattle.std.specs.List.{Contains, find}
+use Rattle.std.specs.List.{find}
 use Rattle.std.specs.List.Sorted.{IsStrictlySortedBy}
 use Rattle.std.specs.Ordering.{ordering_reverse}
 use Rattle.nichols_input.specs.Laws.{IsLeast}
-
--- a text of a list is its first or one of the others
-first_or_other : (y : List ℕ) (ys : List (List ℕ)) (text : List ℕ) → Contains (y ∷ ys) text → (y ≡ text) ⊎ Contains ys text
-first_or_other y ys text (zero, less, is) = inl is
-first_or_other y ys text (suc k, less, is) = inr (k, omega arith, is)
 
 pub first_is_least : (test : List ℕ → Bool) (texts : List (List ℕ)) (text : List ℕ) → IsStrictlySortedBy (slice_cmp nat_cmp) texts → find test texts ≡ Some text → IsLeast test texts text
 unfolding IsStrictlySortedBy
@@ -28,8 +24,8 @@ first_is_least test (y ∷ ys) text sorted is = at (test y) refl is (first_is_le
           here = (0, omega arith, same);
           meets = ap test (sym same) ∙ here;
           least = λ other among passes.
-              elim (first_or_other y ys other among) [
-                | inl front ↦ ap (λ z. is_lt (slice_cmp nat_cmp z text)) (sym front ∙ same) ∙ ap is_lt (tied_itself nat_list_cmp_total text)
+              elim (contains_cases y ys other among) [
+                | inl front ↦ ap (λ z. is_lt (slice_cmp nat_cmp z text)) (front ∙ same) ∙ ap is_lt (tied_itself nat_list_cmp_total text)
                 | inr behind ↦
                     ap (λ z. is_lt (slice_cmp nat_cmp other z)) (sym same)
                     ∙ ap is_lt (nat_list_cmp_total.antisymm other y ∙ ap ordering_reverse (All-contains (λ l. slice_cmp nat_cmp y l ≡ Less) ys other (All-from_recursion (λ l. slice_cmp nat_cmp y l ≡ Less) ys sorted.0) behind))
@@ -41,8 +37,8 @@ first_is_least test (y ∷ ys) text sorted is = at (test y) refl is (first_is_le
           here = (suc h.here.0, omega (arith, h.here.1), h.here.2);
           meets = h.meets;
           least = λ other among passes.
-              elim (first_or_other y ys other among) [
-                | inl front ↦ absurd (true≢false (sym passes ∙ ap test (sym front) ∙ here))
+              elim (contains_cases y ys other among) [
+                | inl front ↦ absurd (true≢false (sym passes ∙ ap test front ∙ here))
                 | inr behind ↦ h.least other behind passes
               ];
         }
@@ -56,19 +52,9 @@ one_is_least test texts a b is_a is_b = at (slice_cmp nat_cmp a b) refl
     at Equal e = slice_cmp-IsAntisymmetric nat_cmp-IsAntisymmetric a b e
     at Greater e = absurd (true≢false (sym (ap is_lt (nat_list_cmp_total.antisymm b a ∙ ap ordering_reverse e)) ∙ is_a.least b is_b.here is_b.meets))
 
--- a search passes by no text that meets the test
-found : (test : List ℕ → Bool) (texts : List (List ℕ)) (text : List ℕ) → Contains texts text → test text ≡ true → find test texts ≡ None → ⊥
-found test [] text (k, less, is) meets none = absurd (omega arith)
-found test (y ∷ ys) text among meets none = at (test y) refl none (first_or_other y ys text among) (found test ys text)
-  where
-    at : (b : Bool) → test y ≡ b → cond b (Some y) (find test ys) ≡ None → (y ≡ text) ⊎ Contains ys text → (Contains ys text → test text ≡ true → find test ys ≡ None → ⊥) → ⊥
-    at true here e which later = none-some y (sym e)
-    at false here e (inl front) later = true≢false (sym meets ∙ ap test (sym front) ∙ here)
-    at false here e (inr behind) later = later behind meets e
-
 pub least_is_first : (test : List ℕ → Bool) (texts : List (List ℕ)) (text : List ℕ) → IsStrictlySortedBy (slice_cmp nat_cmp) texts → IsLeast test texts text → find test texts ≡ Some text
 least_is_first test texts text sorted h = at (find test texts) refl
   where
     at : (o : Option (List ℕ)) → find test texts ≡ o → find test texts ≡ Some text
-    at None e = absurd (found test texts text h.here h.meets e)
+    at None e = let (other, is) = finds test texts text h.here h.meets in absurd (none-some other (sym e ∙ is))
     at (Some other) e = e ∙ ap Some (one_is_least test texts other text (first_is_least test texts other sorted e) h)

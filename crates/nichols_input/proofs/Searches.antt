@@ -1,5 +1,6 @@
 -- Searches along a list.
 use Rattle.std.proofs.Common.{◌≡◌, Bool, true, false, cond, List, [], ◌∷◌, ◌++◌, None, Some, refl, ap, ◌∙◌, sym}
+use Rattle.std.proofs.lemmas.Bool.{and_parts, not-true}
 use Rattle.std.specs.Prelude.{not, ◌&&◌}
 use Rattle.std.specs.List.{find, list_all}
 use Rattle.nichols_input.specs.Laws.{IsFirst}
@@ -22,22 +23,17 @@ find_none test (y ∷ ys) is = at (test y) refl is (find_none test ys)
     at true here e later = absurd cc
     at false here e later = ap (λ b. not b && list_all (λ z. not (test z)) ys) here ∙ later e
 
--- the first parts of a conjunction
-both : (b c : Bool) → not b && c ≡ true → (b ≡ false) × (c ≡ true)
-both true c e = absurd cc
-both false c e = (refl, e)
-
 pub none_find : {X : Type 0} (test : X → Bool) (xs : List X) → list_all (λ y. not (test y)) xs ≡ true → find test xs ≡ None
 none_find test [] e = refl
 none_find test (y ∷ ys) e =
-    let parts : (test y ≡ false) × (list_all (λ z. not (test z)) ys ≡ true) = both (test y) (list_all (λ z. not (test z)) ys) e in
-    ap (λ b. cond b (Some y) (find test ys)) parts.0 ∙ none_find test ys parts.1
+    let parts = and_parts (not (test y)) (list_all (λ z. not (test z)) ys) e in
+    ap (λ b. cond b (Some y) (find test ys)) (not-true (test y) parts.0) ∙ none_find test ys parts.1
 
 past_others : {X : Type 0} (test : X → Bool) (before after : List X) (x : X) → list_all (λ y. not (test y)) before ≡ true → test x ≡ true → find test (before ++ x ∷ after) ≡ Some x
 past_others test [] after x others here = ap (λ b. cond b (Some x) (find test after)) here
 past_others test (y ∷ ys) after x others here =
-    let parts : (test y ≡ false) × (list_all (λ z. not (test z)) ys ≡ true) = both (test y) (list_all (λ z. not (test z)) ys) others in
-    ap (λ b. cond b (Some y) (find test (ys ++ x ∷ after))) parts.0 ∙ past_others test ys after x parts.1 here
+    let parts = and_parts (not (test y)) (list_all (λ z. not (test z)) ys) others in
+    ap (λ b. cond b (Some y) (find test (ys ++ x ∷ after))) (not-true (test y) parts.0) ∙ past_others test ys after x parts.1 here
 
 pub first_find : {X : Type 0} (test : X → Bool) (xs : List X) (x : X) → IsFirst test xs x → find test xs ≡ Some x
 first_find test xs x h = ap (find test) h.split ∙ past_others test h.before h.after x h.others h.here

@@ -8,8 +8,8 @@ use Rattle.nichols_tensor.specs.Combination.{Combination}
 use Rattle.nichols_braid.specs.Braid.{BraidValue}
 use Rattle.nichols_expression.specs.Reader.{Fault, expression_of}
 use Rattle.nichols_expression.specs.declared.faults.Cause.TheVariants.{Surplus}
-use Rattle.nichols_input.specs.declared.TheConstants.{EXPRESSION_LIMIT}
-use Rattle.nichols_input.specs.Document.{values_from, value_of, numbered, put_value}
+use Rattle.nichols_expression.specs.declared.TheConstants.{EXPRESSION_LIMIT}
+use Rattle.nichols_input.specs.Document.{values_from, value_of, with_number, put_value}
 use Rattle.nichols_input.specs.Refusal.{Refusal, expression}
 
 -- the texts are expressions
@@ -43,26 +43,26 @@ unfolding values_from
 values_told braid [] k low = values [] (let h : k ≤ suc EXPRESSION_LIMIT = low in grind (arith, h)) refl
 values_told braid (text ∷ texts) k low = by_number (values_told braid texts (suc k)) (nat_lt EXPRESSION_LIMIT k) refl
   where
-    by_text : (suc k ≤ suc EXPRESSION_LIMIT → Told braid (suc k) texts (values_from braid (suc k) texts)) → k ≤ EXPRESSION_LIMIT → (r : Result Combination Fault) → expression_of braid text ≡ r → Told braid k (text ∷ texts) (put_value (numbered k r) (values_from braid (suc k) texts))
+    by_text : (suc k ≤ suc EXPRESSION_LIMIT → Told braid (suc k) texts (values_from braid (suc k) texts)) → k ≤ EXPRESSION_LIMIT → (r : Result Combination Fault) → expression_of braid text ≡ r → Told braid k (text ∷ texts) (put_value (with_number k r) (values_from braid (suc k) texts))
     by_text later inside (Ok f) is = one_more braid k text texts f is (values_from braid (suc k) texts) (later (let h : k ≤ EXPRESSION_LIMIT = inside in grind (arith, h)))
     by_text later inside (Err fault) is = fault_at [] texts text fault k refl refl (omega arith) inside is
 
-    by_number : (suc k ≤ suc EXPRESSION_LIMIT → Told braid (suc k) texts (values_from braid (suc k) texts)) → (b : Bool) → nat_lt EXPRESSION_LIMIT k ≡ b → Told braid k (text ∷ texts) (put_value (cond b (Err (expression k 1 Surplus)) (numbered k (expression_of braid text))) (values_from braid (suc k) texts))
+    by_number : (suc k ≤ suc EXPRESSION_LIMIT → Told braid (suc k) texts (values_from braid (suc k) texts)) → (b : Bool) → nat_lt EXPRESSION_LIMIT k ≡ b → Told braid k (text ∷ texts) (put_value (cond b (Err (expression k 1 Surplus)) (with_number k (expression_of braid text))) (values_from braid (suc k) texts))
     by_number later true over = too_many [] texts text k refl refl (omega arith) (let h : nat_lt EXPRESSION_LIMIT k ≡ true = over in let g : k ≤ suc EXPRESSION_LIMIT = low in grind (arith, nat_tests, h, g))
     by_number later false under = by_text later (let h : nat_lt EXPRESSION_LIMIT k ≡ false = under in grind (arith, nat_tests, h)) (expression_of braid text) refl
 
 -- ---- and back
 
 -- a text within the limit
-within : (braid : BraidValue) (k : ℕ) (text : List ℕ) → k ≤ EXPRESSION_LIMIT → value_of braid k text ≡ numbered k (expression_of braid text)
+within : (braid : BraidValue) (k : ℕ) (text : List ℕ) → k ≤ EXPRESSION_LIMIT → value_of braid k text ≡ with_number k (expression_of braid text)
 within braid k text inside =
     let under : nat_lt EXPRESSION_LIMIT k ≡ false = (let h : k ≤ EXPRESSION_LIMIT = inside in grind (arith, nat_tests, h)) in
-    ap (λ b. cond b (Err (expression k 1 Surplus)) (numbered k (expression_of braid text))) under
+    ap (λ b. cond b (Err (expression k 1 Surplus)) (with_number k (expression_of braid text))) under
 
 one_read : (braid : BraidValue) (k : ℕ) (text : List ℕ) (texts : List (List ℕ)) (f : Combination) → k ≤ EXPRESSION_LIMIT → expression_of braid text ≡ Ok f
     → values_from braid k (text ∷ texts) ≡ put_value (Ok f) (values_from braid (suc k) texts)
 unfolding values_from
-one_read braid k text texts f inside is = ap (λ v. put_value v (values_from braid (suc k) texts)) (within braid k text inside ∙ ap (numbered k) is)
+one_read braid k text texts f inside is = ap (λ v. put_value v (values_from braid (suc k) texts)) (within braid k text inside ∙ ap (with_number k) is)
 
 -- the values of texts before others, then the refusal of these
 pub past_read : (braid : BraidValue) (before rest : List (List ℕ)) (k : ℕ) (refusal : Refusal) → k + length before ≤ suc EXPRESSION_LIMIT → all_read braid before ≡ true
@@ -87,13 +87,13 @@ past_read braid (text ∷ before) rest k refusal low good is = by_text (past_rea
 pub refused_text : (braid : BraidValue) (k : ℕ) (text : List ℕ) (texts : List (List ℕ)) (fault : Fault) → k ≤ EXPRESSION_LIMIT → expression_of braid text ≡ Err fault
     → values_from braid k (text ∷ texts) ≡ Err (expression k fault.place fault.cause)
 unfolding values_from
-refused_text braid k text texts fault inside is = ap (λ v. put_value v (values_from braid (suc k) texts)) (within braid k text inside ∙ ap (numbered k) is)
+refused_text braid k text texts fault inside is = ap (λ v. put_value v (values_from braid (suc k) texts)) (within braid k text inside ∙ ap (with_number k) is)
 
 pub surplus_text : (braid : BraidValue) (k : ℕ) (text : List ℕ) (texts : List (List ℕ)) → k ≡ suc EXPRESSION_LIMIT → values_from braid k (text ∷ texts) ≡ Err (expression k 1 Surplus)
 unfolding values_from
 surplus_text braid k text texts is =
     let over : nat_lt EXPRESSION_LIMIT k ≡ true = (let h : k ≡ suc EXPRESSION_LIMIT = is in grind (arith, nat_tests, h)) in
-    ap (λ b. put_value (cond b (Err (expression k 1 Surplus)) (numbered k (expression_of braid text))) (values_from braid (suc k) texts)) over
+    ap (λ b. put_value (cond b (Err (expression k 1 Surplus)) (with_number k (expression_of braid text))) (values_from braid (suc k) texts)) over
 
 pub all_values : (braid : BraidValue) (texts : List (List ℕ)) (fs : List Combination) (k : ℕ) → k + length texts ≤ suc EXPRESSION_LIMIT
     → map (expression_of braid) texts ≡ map (λ f. Ok f) fs → values_from braid k texts ≡ Ok fs

@@ -13,10 +13,6 @@ abbrev pub values_after : List Combination → Result (List Combination) Refusal
 values_after fs (Ok gs) = Ok (fs ++ gs)
 values_after fs (Err refusal) = Err refusal
 
-pub none_in_front : (r : Result (List Combination) Refusal) → values_after [] r ≡ r
-none_in_front (Ok gs) = refl
-none_in_front (Err refusal) = refl
-
 one_in_front : (fs : List Combination) (f : Combination) (r : Result (List Combination) Refusal) → values_after fs (put_value (Ok f) r) ≡ values_after (fs ++ f ∷ []) r
 one_in_front fs f (Ok gs) = ap (λ hs. Ok hs) (sym (append_assoc fs (f ∷ []) gs))
 one_in_front fs f (Err refusal) = refl

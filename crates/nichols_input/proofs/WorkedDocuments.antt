@@ -2,9 +2,10 @@
 use Rattle.std.proofs.Common.{◌≡◌, ℕ, List, [], ◌∷◌, ◌++◌, Ok, Err, codes, refl}
 use Rattle.std.specs.Prelude.{pos}
 use Rattle.nichols_field.specs.Field.{prime_field}
-use Rattle.nichols_tensor.specs.Combination.{Term, Combination}
+use Rattle.nichols_tensor.specs.Combination.{Combination}
 use Rattle.nichols_braid.specs.Faults.{letters, not_distributive, cocycle_shape}
 use Rattle.nichols_expression.specs.declared.faults.Cause.TheVariants.{Letter}
+use Rattle.nichols_expression.proofs.Examples.{term}
 use Rattle.nichols_input.specs.Document.{DocumentValue, document_in}
 use Rattle.nichols_input.specs.Refusal.{not_toml, missing_key, unknown_key, wrong_kind, modulus, tables, expression}
 use Rattle.nichols_input.specs.declared.key.Key.TheVariants.{Modulus, Rack, Cocycle, Expressions}
@@ -31,9 +32,6 @@ three_with fs = record {
   };
   expressions = fs;
 }
-
-abbrev term : ℕ → List ℕ → Term
-term c w = record { word = w; coefficient = c }
 
 three_transpositions : document_in (modulus_line ++ rack_line ++ cocycle_line) ≡ Ok (three_with [])
 unfolding input_on_literals

@@ -10,7 +10,7 @@ use Rattle.nichols_braid.specs.GivenScalars.{GivenScalars, constant}
 use Rattle.nichols_braid.specs.Faults.{TableFault, braid_of}
 use Rattle.nichols_expression.specs.Reader.{Fault, expression_of}
 use Rattle.nichols_expression.specs.declared.faults.Cause.TheVariants.{Surplus}
-use Rattle.nichols_input.specs.declared.TheConstants.{EXPRESSION_LIMIT}
+use Rattle.nichols_expression.specs.declared.TheConstants.{EXPRESSION_LIMIT}
 use Rattle.nichols_input.specs.declared.key.Key.{Key}
 use Rattle.nichols_input.specs.declared.key.Key.TheVariants.{Modulus, Rack, Cocycle, Expressions}
 use Rattle.nichols_input.specs.Keys.{key_name, needed_keys, known_keys, is_known}
@@ -85,12 +85,12 @@ texts_at ms = unwrap_or (texts_of (at_key Expressions ms)) []
 -- ---- the expressions
 
 -- the value of the text of this number, or its fault; a text beyond the limit has one at its first byte
-abbrev pub numbered : ℕ → Result Combination Fault → Result Combination Refusal
-numbered k (Ok f) = Ok f
-numbered k (Err fault) = Err (expression k fault.place fault.cause)
+abbrev pub with_number : ℕ → Result Combination Fault → Result Combination Refusal
+with_number k (Ok f) = Ok f
+with_number k (Err fault) = Err (expression k fault.place fault.cause)
 
 abbrev pub value_of : BraidValue → ℕ → List ℕ → Result Combination Refusal
-value_of braid k text = if nat_lt EXPRESSION_LIMIT k then Err (expression k 1 Surplus) else numbered k (expression_of braid text)
+value_of braid k text = if nat_lt EXPRESSION_LIMIT k then Err (expression k 1 Surplus) else with_number k (expression_of braid text)
 
 -- one value more in front, or the first fault
 abbrev pub put_value : Result Combination Refusal → Result (List Combination) Refusal → Result (List Combination) Refusal

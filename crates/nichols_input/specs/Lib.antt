@@ -1,3 +1,4 @@
+-- what public contracts cite
 pub mod Keys
 pub mod Shapes
 pub mod Refusal

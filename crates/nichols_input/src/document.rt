@@ -5,7 +5,7 @@ ghost use Rattle.std.specs.List.{AllByRecursion};
 ghost use Rattle.nichols_braid.specs.GivenScalars.{given_scalars};
 ghost use Rattle.nichols_input.specs.Document.{document_in, document_of, document_of_table};
 ghost use Rattle.nichols_input.specs.Refusal.{refusal_of};
-ghost use Rattle.nichols_input.specs.declared.TheConstants.{EXPRESSION_LIMIT};
+ghost use Rattle.nichols_expression.specs.declared.TheConstants.{EXPRESSION_LIMIT};
 ghost use Rattle.nichols_input.specs.declared.faults.InputFault.TheVariants.{Memory};
 ghost use Rattle.nichols_tensor.specs.Combination.{AllElements};
 ghost use Rattle.nichols_tensor.specs.Words.{IsOver};

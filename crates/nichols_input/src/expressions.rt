@@ -8,10 +8,9 @@ ghost use Rattle.nichols_input.specs.declared.faults.InputFault.TheVariants.{Mem
 ghost use Rattle.nichols_tensor.specs.Combination.{AllElements};
 ghost use Rattle.nichols_tensor.specs.Words.{IsOver};
 
-use crate::EXPRESSION_LIMIT;
 use crate::faults::InputFault;
 use nichols_braid::Braid;
-use nichols_expression::{Cause, ExpressionFault, read_expression};
+use nichols_expression::{Cause, EXPRESSION_LIMIT, ExpressionFault, read_expression};
 use nichols_words::Comb;
 use std::alloc::Global;
 

@@ -29,8 +29,8 @@ pub enum InputFault {
     Modulus(FieldFault),
     /// Rows and scalars aren't a braid. It is never for want of memory.
     Braid(BraidFault),
-    /// The first expression that is none: its number, and the place of its first fault, both from 1. Where there are more
-    /// than 1000, and the first 1000 are expressions, it is number 1001, at place 1.
+    /// The first expression that is none: its number, and the place of its first fault, both from 1. Where there
+    /// are more than `EXPRESSION_LIMIT`, and the first so many are expressions, it is the one behind them, at place 1.
     Expression(u32, usize, Cause),
     /// Want of memory.
     Memory,

@@ -14,10 +14,10 @@ pub use document::{Document, read_document};
 pub use faults::InputFault;
 pub use key::Key;
 pub use key_text::KeyText;
-pub use nichols_expression::{Cause, ExpressionFault, read_expression};
+pub use nichols_expression::{Cause, EXPRESSION_LIMIT, ExpressionFault, read_expression};
 
 #[cfg(test)]
 mod tests;
 
-/// The most expressions of a document.
-pub const EXPRESSION_LIMIT: usize = 1000;
+/// The most bytes of a document.
+pub const DOCUMENT_LIMIT: usize = 1_048_576;

@@ -1,3 +1,4 @@
+-- what public contracts cite
 pub mod Counts
 pub mod Bytes
 pub mod Source

@@ -5,7 +5,7 @@ use Rattle.nichols_field.specs.Field.{FieldValue, times}
 use Rattle.nichols_field.proofs.FieldLaws.{times_comm, times_assoc}
 use Rattle.nichols_braid.specs.Braid.{BraidValue, IsLetter, act, scalar, IsRack, IsCocycle}
 use Rattle.nichols_tensor.specs.Words.{IsWordOver}
-use Rattle.nichols_lift.specs.ClosedForm.{Placed, acted, acted_scalar, ended, ended_scalar}
+use Rattle.nichols_lift.specs.ClosedForm.{Placed, acted_letter, acted_scalar, letters_at_ends, ended_scalar}
 
 abbrev pub placed : ℕ → ℕ → Placed
 placed e x = record { place = e; letter = x }
@@ -33,14 +33,14 @@ above : (e m n : ℕ) → m < n → nat_lt e m ≡ true → nat_lt e n ≡ true
 above e m n h t = grind (arith, nat_tests)
 
 -- what a later letter becomes: b and then a act on it, or after the crossing a and then a ▷ b
-pub acted-crossed : (braid : BraidValue) → IsRack braid → (before ps : List Placed) (ea a eb b : ℕ) → eb < ea → IsLetter braid a → IsLetter braid b → AllLetters braid before → (e x : ℕ) → IsLetter braid x →
-    acted braid (before ++ placed eb b ∷ placed ea a ∷ ps) e x ≡ acted braid (before ++ placed ea a ∷ placed eb (act braid a b) ∷ ps) e x
+pub acted_letter-crossed : (braid : BraidValue) → IsRack braid → (before ps : List Placed) (ea a eb b : ℕ) → eb < ea → IsLetter braid a → IsLetter braid b → AllLetters braid before → (e x : ℕ) → IsLetter braid x →
+    acted_letter braid (before ++ placed eb b ∷ placed ea a ∷ ps) e x ≡ acted_letter braid (before ++ placed ea a ∷ placed eb (act braid a b) ∷ ps) e x
 unfolding AllLetters
-acted-crossed braid rack [] ps ea a eb b h la lb all e x lx =
-    pair_letters (nat_lt e eb) (nat_lt e ea) (above e eb ea h) (acted braid ps e (act braid a (act braid b x))) (acted braid ps e (act braid a x)) (acted braid ps e x) (acted braid ps e (act braid (act braid a b) (act braid a x)))
-    (ap (acted braid ps e) (rack.distributive a b x la lb lx)) (acted braid ps e (act braid b x)) (acted braid ps e (act braid (act braid a b) x))
-acted-crossed braid rack (p ∷ before) ps ea a eb b h la lb all e x lx =
-    ap₂ (cond (nat_lt e p.place)) (acted-crossed braid rack before ps ea a eb b h la lb all.1 e (act braid p.letter x) (rack.closed p.letter x all.0 lx)) (acted-crossed braid rack before ps ea a eb b h la lb all.1 e x lx)
+acted_letter-crossed braid rack [] ps ea a eb b h la lb all e x lx =
+    pair_letters (nat_lt e eb) (nat_lt e ea) (above e eb ea h) (acted_letter braid ps e (act braid a (act braid b x))) (acted_letter braid ps e (act braid a x)) (acted_letter braid ps e x) (acted_letter braid ps e (act braid (act braid a b) (act braid a x)))
+    (ap (acted_letter braid ps e) (rack.distributive a b x la lb lx)) (acted_letter braid ps e (act braid b x)) (acted_letter braid ps e (act braid (act braid a b) x))
+acted_letter-crossed braid rack (p ∷ before) ps ea a eb b h la lb all e x lx =
+    ap₂ (cond (nat_lt e p.place)) (acted_letter-crossed braid rack before ps ea a eb b h la lb all.1 e (act braid p.letter x) (rack.closed p.letter x all.0 lx)) (acted_letter-crossed braid rack before ps ea a eb b h la lb all.1 e x lx)
 
 pair_scalars : (k : FieldValue) (t u : Bool) → (t ≡ true → u ≡ true) → (qb qab qa qaab r r' only none other unused : ℕ) → times k qb (times k qab r) ≡ times k qa (times k qaab r') →
     cond t (times k qb (cond u (times k qab r) unused)) (cond u (times k qa only) none) ≡ cond u (times k qa (cond t (times k qaab r') only)) (cond t other none)
@@ -69,12 +69,12 @@ scalars-crossed braid rack cocycle (p ∷ before) ps ea a eb b h la lb all e x l
     ap₂ (cond (nat_lt e p.place)) (ap (times braid.field (scalar braid p.letter x)) (scalars-crossed braid rack cocycle before ps ea a eb b h la lb all.1 e (act braid p.letter x) (rack.closed p.letter x all.0 lx))) (scalars-crossed braid rack cocycle before ps ea a eb b h la lb all.1 e x lx)
 
 -- what all later letters become
-pub ended-crossed : (braid : BraidValue) → IsRack braid → (before ps : List Placed) (ea a eb b : ℕ) → eb < ea → IsLetter braid a → IsLetter braid b → AllLetters braid before → (ends w : List ℕ) → IsWordOver braid.letters w →
-    ended braid (before ++ placed eb b ∷ placed ea a ∷ ps) ends w ≡ ended braid (before ++ placed ea a ∷ placed eb (act braid a b) ∷ ps) ends w
-ended-crossed braid rack before ps ea a eb b h la lb all [] w over = refl
-ended-crossed braid rack before ps ea a eb b h la lb all (e ∷ ends) [] over = refl
-ended-crossed braid rack before ps ea a eb b h la lb all (e ∷ ends) (x ∷ w) over =
-    ap₂ (λ y r. placed e y ∷ r) (acted-crossed braid rack before ps ea a eb b h la lb all e x over.0) (ended-crossed braid rack (placed e x ∷ before) ps ea a eb b h la lb (all_letters braid e x before over.0 all) ends w over.1)
+pub letters_at_ends-crossed : (braid : BraidValue) → IsRack braid → (before ps : List Placed) (ea a eb b : ℕ) → eb < ea → IsLetter braid a → IsLetter braid b → AllLetters braid before → (ends w : List ℕ) → IsWordOver braid.letters w →
+    letters_at_ends braid (before ++ placed eb b ∷ placed ea a ∷ ps) ends w ≡ letters_at_ends braid (before ++ placed ea a ∷ placed eb (act braid a b) ∷ ps) ends w
+letters_at_ends-crossed braid rack before ps ea a eb b h la lb all [] w over = refl
+letters_at_ends-crossed braid rack before ps ea a eb b h la lb all (e ∷ ends) [] over = refl
+letters_at_ends-crossed braid rack before ps ea a eb b h la lb all (e ∷ ends) (x ∷ w) over =
+    ap₂ (λ y r. placed e y ∷ r) (acted_letter-crossed braid rack before ps ea a eb b h la lb all e x over.0) (letters_at_ends-crossed braid rack (placed e x ∷ before) ps ea a eb b h la lb (all_letters braid e x before over.0 all) ends w over.1)
 
 -- what all later letters meet
 pub ended_scalar-crossed : (braid : BraidValue) → IsRack braid → IsCocycle braid → (before ps : List Placed) (ea a eb b : ℕ) → eb < ea → IsLetter braid a → IsLetter braid b → AllLetters braid before → (ends w : List ℕ) → IsWordOver braid.letters w →

@@ -2,7 +2,7 @@
 use Rattle.std.proofs.Common.{◌≡◌, ℕ, zero, suc, ◌+◌, ◌*◌, ◌≤◌, Bool, true, false, cond, List, [], ◌∷◌, length, refl, ap, arith, subst, nat_lt, Option, None, Some}
 use Rattle.std.specs.Option.{option_map, option_map_or}
 use Rattle.std.proofs.lemmas.Bool.Decides.{nat_tests}
-use Rattle.nichols_braid.specs.Lift.{exchanged, IsDescentAt, IsSorted, IsDescending, first_descent, least_descents, bubble}
+use Rattle.nichols_braid.specs.Lift.{exchanged_at, IsDescentAt, IsSorted, IsDescending, first_descent, least_descents, bubble}
 
 -- how many entries are less than a
 lesser : ℕ → List ℕ → ℕ
@@ -44,22 +44,22 @@ none_is_sorted (a ∷ b ∷ ends) h = at (nat_lt b a) refl (first_descent (b ∷
 
 -- ---- inversions
 
-lesser-exchanged : (c i : ℕ) (ends : List ℕ) → lesser c (exchanged i ends) ≡ lesser c ends
+lesser-exchanged_at : (c i : ℕ) (ends : List ℕ) → lesser c (exchanged_at i ends) ≡ lesser c ends
 unfolding lesser
-lesser-exchanged c zero ends = refl
-lesser-exchanged c (suc zero) [] = refl
-lesser-exchanged c (suc zero) (a ∷ []) = refl
-lesser-exchanged c (suc zero) (a ∷ b ∷ ends) = at (nat_lt a c) (nat_lt b c) (lesser c ends)
+lesser-exchanged_at c zero ends = refl
+lesser-exchanged_at c (suc zero) [] = refl
+lesser-exchanged_at c (suc zero) (a ∷ []) = refl
+lesser-exchanged_at c (suc zero) (a ∷ b ∷ ends) = at (nat_lt a c) (nat_lt b c) (lesser c ends)
   where
     at : (t u : Bool) (n : ℕ) → cond u (suc (cond t (suc n) n)) (cond t (suc n) n) ≡ cond t (suc (cond u (suc n) n)) (cond u (suc n) n)
     at true true n = refl
     at true false n = refl
     at false true n = refl
     at false false n = refl
-lesser-exchanged c (suc (suc i)) [] = refl
-lesser-exchanged c (suc (suc i)) (a ∷ ends) = ap (λ n. cond (nat_lt a c) (suc n) n) (lesser-exchanged c (suc i) ends)
+lesser-exchanged_at c (suc (suc i)) [] = refl
+lesser-exchanged_at c (suc (suc i)) (a ∷ ends) = ap (λ n. cond (nat_lt a c) (suc n) n) (lesser-exchanged_at c (suc i) ends)
 
-pub one_fewer : (i : ℕ) (ends : List ℕ) → IsDescentAt i ends → suc (inversions (exchanged i ends)) ≡ inversions ends
+pub one_fewer : (i : ℕ) (ends : List ℕ) → IsDescentAt i ends → suc (inversions (exchanged_at i ends)) ≡ inversions ends
 unfolding inversions lesser
 one_fewer zero ends h = absurd h
 one_fewer (suc zero) [] h = absurd h
@@ -72,8 +72,8 @@ one_fewer (suc zero) (a ∷ b ∷ ends) h = at (nat_lt a b) (nat_lt b a) (grind 
     at false false e f m n r = cc
 one_fewer (suc (suc i)) [] h = absurd h
 one_fewer (suc (suc i)) (a ∷ ends) h =
-    let less : suc (inversions (exchanged (suc i) ends)) ≡ inversions ends = one_fewer (suc i) ends h in
-    let kept : lesser a (exchanged (suc i) ends) ≡ lesser a ends = lesser-exchanged a (suc i) ends in
+    let less : suc (inversions (exchanged_at (suc i) ends)) ≡ inversions ends = one_fewer (suc i) ends h in
+    let kept : lesser a (exchanged_at (suc i) ends) ≡ lesser a ends = lesser-exchanged_at a (suc i) ends in
     omega arith
 
 lesser_bound : (a : ℕ) (ends : List ℕ) → lesser a ends ≤ length ends
@@ -105,11 +105,11 @@ descends zero ends h = at (first_descent ends) refl
   where
     at : (found : Option ℕ) → first_descent ends ≡ found → IsSorted ends
     at None f = none_is_sorted ends f
-    at (Some i) f = let fewer : suc (inversions (exchanged i ends)) ≡ inversions ends = one_fewer i ends (found_is_descent ends i f) in absurd (omega arith)
-descends (suc n) ends h = at (first_descent ends) refl (λ i d. descends n (exchanged i ends) (let fewer : suc (inversions (exchanged i ends)) ≡ inversions ends = one_fewer i ends d in omega arith))
+    at (Some i) f = let fewer : suc (inversions (exchanged_at i ends)) ≡ inversions ends = one_fewer i ends (found_is_descent ends i f) in absurd (omega arith)
+descends (suc n) ends h = at (first_descent ends) refl (λ i d. descends n (exchanged_at i ends) (let fewer : suc (inversions (exchanged_at i ends)) ≡ inversions ends = one_fewer i ends d in omega arith))
   where
-    at : (found : Option ℕ) → first_descent ends ≡ found → ((i : ℕ) → IsDescentAt i ends → IsDescending (exchanged i ends) (least_descents n (exchanged i ends))) →
-        IsDescending ends (option_map_or (λ i. i ∷ least_descents n (exchanged i ends)) found [])
+    at : (found : Option ℕ) → first_descent ends ≡ found → ((i : ℕ) → IsDescentAt i ends → IsDescending (exchanged_at i ends) (least_descents n (exchanged_at i ends))) →
+        IsDescending ends (option_map_or (λ i. i ∷ least_descents n (exchanged_at i ends)) found [])
     at None f rest = none_is_sorted ends f
     at (Some i) f rest = let d : IsDescentAt i ends = found_is_descent ends i f in (d, rest i d)
 

@@ -9,12 +9,13 @@ use Rattle.nichols_field.proofs.FieldLaws.{times_assoc, times_one, times_is_elem
 use Rattle.nichols_tensor.specs.Combination.{Term}
 use Rattle.nichols_tensor.proofs.Pushed.{pushed_length}
 use Rattle.nichols_braid.specs.Braid.{BraidValue, act, scalar}
-use Rattle.nichols_braid.specs.Crossing.{cross, cross_scalar, crossed}
-use Rattle.nichols_braid.specs.Lift.{exchanged, IsDescentAt, IsSorted, IsDescending}
+use Rattle.nichols_braid.specs.Crossing.{cross, cross_scalar, crossed_term}
+use Rattle.nichols_braid.specs.Lift.{exchanged_at, IsDescentAt, IsSorted, IsDescending}
 use Rattle.nichols_braid.specs.Derivation.{scalars_met}
 use Rattle.nichols_braid.proofs.Rearranged.{consecutive}
 use Rattle.nichols_lift.proofs.Reduced.{term}
-use Rattle.nichols_lift.proofs.Step.{exchanged_is_permutation, exchanged_length, cross_length}
+use Rattle.nichols_lift.proofs.Step.{exchanged_is_permutation, exchanged_length}
+use Rattle.nichols_braid.proofs.WholeKernel.{cross_length}
 
 -- ---- a letter is carried to the end
 
@@ -27,19 +28,19 @@ scalar_behind braid [] a b u = refl
 scalar_behind braid (x ∷ front) a b u = scalar_behind braid front a b u
 
 pub carried_to_end : (braid : BraidValue) → IsField braid.field → (front : List ℕ) (a : ℕ) (u : List ℕ) (c : ℕ) → IsElement braid.field c →
-    crossed braid (consecutive (suc (length front)) (length u)) (term (front ++ a ∷ u) c) ≡ term (front ++ (map (act braid a) u ++ a ∷ [])) (times braid.field c (scalars_met braid a u))
+    crossed_term braid (consecutive (suc (length front)) (length u)) (term (front ++ a ∷ u) c) ≡ term (front ++ (map (act braid a) u ++ a ∷ [])) (times braid.field c (scalars_met braid a u))
 carried_to_end braid is front a [] c e = ap (term (front ++ a ∷ [])) (sym (times_one braid.field c e))
 carried_to_end braid is front a (b ∷ u) c e =
     let next : List ℕ = front ++ act braid a b ∷ [] in
     let d : ℕ = times braid.field c (scalar braid a b) in
-    ap₂ (λ w s. crossed braid (consecutive (suc (suc (length front))) (length u)) (term w (times braid.field c s))) (cross_behind braid front a b u ∙ sym (append_assoc front (act braid a b ∷ []) (a ∷ u))) (scalar_behind braid front a b u)
-    ∙ ap (λ n. crossed braid (consecutive (suc n) (length u)) (term (next ++ a ∷ u) d)) (sym (pushed_length front (act braid a b)))
+    ap₂ (λ w s. crossed_term braid (consecutive (suc (suc (length front))) (length u)) (term w (times braid.field c s))) (cross_behind braid front a b u ∙ sym (append_assoc front (act braid a b ∷ []) (a ∷ u))) (scalar_behind braid front a b u)
+    ∙ ap (λ n. crossed_term braid (consecutive (suc n) (length u)) (term (next ++ a ∷ u) d)) (sym (pushed_length front (act braid a b)))
     ∙ carried_to_end braid is next a u d (times_is_element braid.field c (scalar braid a b) is)
     ∙ ap₂ term (append_assoc front (act braid a b ∷ []) (map (act braid a) u ++ a ∷ [])) (times_assoc braid.field c (scalar braid a b) (scalars_met braid a u))
 
 -- ---- a greatest entry is carried to the end
 
-exchanged_behind : (front : List ℕ) (a b : ℕ) (u : List ℕ) → exchanged (suc (length front)) (front ++ a ∷ b ∷ u) ≡ front ++ b ∷ a ∷ u
+exchanged_behind : (front : List ℕ) (a b : ℕ) (u : List ℕ) → exchanged_at (suc (length front)) (front ++ a ∷ b ∷ u) ≡ front ++ b ∷ a ∷ u
 exchanged_behind [] a b u = refl
 exchanged_behind (x ∷ front) a b u = ap (λ w. x ∷ w) (exchanged_behind front a b u)
 
@@ -58,7 +59,7 @@ descending_carry n front (r ∷ rest) places less h = (
 
 -- ---- a greatest entry at the end stays there
 
-exchanged_within : (n i : ℕ) (ends : List ℕ) → IsDescentAt i ends → exchanged i (ends ++ n ∷ []) ≡ exchanged i ends ++ n ∷ []
+exchanged_within : (n i : ℕ) (ends : List ℕ) → IsDescentAt i ends → exchanged_at i (ends ++ n ∷ []) ≡ exchanged_at i ends ++ n ∷ []
 exchanged_within n zero ends h = absurd h
 exchanged_within n (suc zero) [] h = absurd h
 exchanged_within n (suc zero) (a ∷ []) h = absurd h
@@ -84,7 +85,7 @@ descending_within n ends [] less h = sorted_within n ends less h
 descending_within n ends (i ∷ places) less h = (
   descent_within n i ends h.0,
   subst (λ es. IsDescending es places) (sym (exchanged_within n i ends h.0))
-      (descending_within n (exchanged i ends) places (All-permutation (λ a. a < n) ends (exchanged i ends) (exchanged_is_permutation i ends h.0) less) h.1),
+      (descending_within n (exchanged_at i ends) places (All-permutation (λ a. a < n) ends (exchanged_at i ends) (exchanged_is_permutation i ends h.0) less) h.1),
 )
 
 all_behind : (P : ℕ → Type 0) (front rest : List ℕ) → All P (front ++ rest) → All P rest
@@ -127,18 +128,18 @@ scalar_within braid x (suc (suc i)) [] v h same = absurd h
 scalar_within braid x (suc (suc i)) (a ∷ ends) [] h same = absurd (omega arith)
 scalar_within braid x (suc (suc i)) (a ∷ ends) (y ∷ v) h same = scalar_within braid x (suc i) ends v h (omega arith)
 
-pub crossed_within : (braid : BraidValue) (x : ℕ) (places ends v : List ℕ) (c : ℕ) → IsDescending ends places → length v ≡ length ends → crossed braid places (term (v ++ x ∷ []) c) ≡ behind x (crossed braid places (term v c))
+pub crossed_within : (braid : BraidValue) (x : ℕ) (places ends v : List ℕ) (c : ℕ) → IsDescending ends places → length v ≡ length ends → crossed_term braid places (term (v ++ x ∷ []) c) ≡ behind x (crossed_term braid places (term v c))
 crossed_within braid x [] ends v c h same = refl
 crossed_within braid x (i ∷ places) ends v c h same =
-    ap₂ (λ w s. crossed braid places (term w (times braid.field c s))) (cross_within braid x i ends v h.0 same) (scalar_within braid x i ends v h.0 same)
-    ∙ crossed_within braid x places (exchanged i ends) (cross braid i v) (times braid.field c (cross_scalar braid i v)) h.1 (cross_length braid i v ∙ same ∙ sym (exchanged_length i ends))
+    ap₂ (λ w s. crossed_term braid places (term w (times braid.field c s))) (cross_within braid x i ends v h.0 same) (scalar_within braid x i ends v h.0 same)
+    ∙ crossed_within braid x places (exchanged_at i ends) (cross braid i v) (times braid.field c (cross_scalar braid i v)) h.1 (cross_length braid i v ∙ same ∙ sym (exchanged_length i ends))
 
-pub crossed-append : (braid : BraidValue) (places more : List ℕ) (t : Term) → crossed braid (places ++ more) t ≡ crossed braid more (crossed braid places t)
-crossed-append braid [] more t = refl
-crossed-append braid (i ∷ places) more t = crossed-append braid places more (term (cross braid i t.word) (times braid.field t.coefficient (cross_scalar braid i t.word)))
+pub crossed_term-append : (braid : BraidValue) (places more : List ℕ) (t : Term) → crossed_term braid (places ++ more) t ≡ crossed_term braid more (crossed_term braid places t)
+crossed_term-append braid [] more t = refl
+crossed_term-append braid (i ∷ places) more t = crossed_term-append braid places more (term (cross braid i t.word) (times braid.field t.coefficient (cross_scalar braid i t.word)))
 
-pub crossed_multiple : (braid : BraidValue) (places : List ℕ) (v : List ℕ) (c d : ℕ) → crossed braid places (term v (times braid.field c d)) ≡ multiple braid.field c (crossed braid places (term v d))
+pub crossed_multiple : (braid : BraidValue) (places : List ℕ) (v : List ℕ) (c d : ℕ) → crossed_term braid places (term v (times braid.field c d)) ≡ multiple braid.field c (crossed_term braid places (term v d))
 crossed_multiple braid [] v c d = refl
 crossed_multiple braid (i ∷ places) v c d =
-    ap (λ s. crossed braid places (term (cross braid i v) s)) (times_assoc braid.field c d (cross_scalar braid i v))
+    ap (λ s. crossed_term braid places (term (cross braid i v) s)) (times_assoc braid.field c d (cross_scalar braid i v))
     ∙ crossed_multiple braid places (cross braid i v) c (times braid.field d (cross_scalar braid i v))

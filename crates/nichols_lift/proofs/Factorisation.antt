@@ -4,15 +4,15 @@ use Rattle.std.specs.List.{flat_map, AllByRecursion}
 use Rattle.std.proofs.lemmas.List.{append-nil, map-append, map-id}
 use Rattle.std.proofs.lemmas.Bool.Decides.{Decides-eqb}
 use Rattle.nichols_field.specs.Field.{FieldValue, IsField, plus}
-use Rattle.nichols_tensor.specs.Combination.{Term, Combination, value_at, HasSameValues, single, scaled, extended}
+use Rattle.nichols_tensor.specs.Combination.{Term, Combination, value_at, HasSameValues, single, scalar_multiple, linear_map}
 use Rattle.nichols_tensor.specs.Words.{up_to, IsLetterOf, IsWordOver, IsOver, HasDegree}
 use Rattle.nichols_tensor.proofs.Values.{value_is_element, value_at-append}
-use Rattle.nichols_tensor.proofs.Linear.{same_images, extended-append, same_append}
+use Rattle.nichols_tensor.proofs.Linear.{same_images, linear_map-append, same_append}
 use Rattle.nichols_braid.specs.Braid.{BraidValue, IsBraid, act}
-use Rattle.nichols_braid.specs.Symmetrizer.{lifts, symmetrized}
-use Rattle.nichols_braid.specs.Derivation.{scalars_met, derived_word, derived}
+use Rattle.nichols_braid.specs.Symmetrizer.{lifts, symmetrizer_image}
+use Rattle.nichols_braid.specs.Derivation.{scalars_met, derived_word, skew_derivative}
 use Rattle.nichols_braid.specs.RightProduct.{times_letter}
-use Rattle.nichols_braid.proofs.Maps.{extended_same, extended_same_on, extended-sum, extended-extended, times_letter_is_extended, times_letter-append}
+use Rattle.nichols_braid.proofs.Maps.{extended_same, extended_same_on, linear_map-sum, linear_map-linear_map, times_letter_is_extended, times_letter-append}
 use Rattle.nichols_braid.proofs.Rule.{here, map-here}
 use Rattle.nichols_deriv.proofs.Passed.{fronted, fronted_twice}
 use Rattle.nichols_lift.proofs.Reduced.{term}
@@ -57,22 +57,22 @@ summands_over braid front (x ∷ u) h = (h.0, summands_over braid (front ++ x �
 
 -- the rests of a letter, symmetrized, with the letter put behind
 gathered : BraidValue → List Summand → ℕ → Combination
-gathered braid ss a = times_letter (symmetrized braid (rests_of a ss)) a
+gathered braid ss a = times_letter (symmetrizer_image braid (rests_of a ss)) a
 
 gathered_here : (braid : BraidValue) → IsField braid.field → (s : Summand) (a : ℕ) (v : List ℕ) → (c : Bool) → (c ≡ true → a ≡ s.letter) →
-    value_at braid.field (times_letter (symmetrized braid (here c s.rest)) a) v ≡ cond c (value_at braid.field (lifted braid s) v) 0
+    value_at braid.field (times_letter (symmetrizer_image braid (here c s.rest)) a) v ≡ cond c (value_at braid.field (lifted braid s) v) 0
 unfolding here
 gathered_here braid is s a v true h =
-    ap₂ (λ f b. value_at braid.field (times_letter f b) v) (append-nil (scaled braid.field s.rest.coefficient (lifts braid s.rest.word))) (h refl)
+    ap₂ (λ f b. value_at braid.field (times_letter f b) v) (append-nil (scalar_multiple braid.field s.rest.coefficient (lifts braid s.rest.word))) (h refl)
 gathered_here braid is s a v false h = refl
 
 gathered-cons : (braid : BraidValue) → IsField braid.field → (s : Summand) (ss : List Summand) (a : ℕ) (v : List ℕ) →
     value_at braid.field (gathered braid (s ∷ ss) a) v ≡ plus braid.field (cond (nat_eq a s.letter) (value_at braid.field (lifted braid s) v) 0) (value_at braid.field (gathered braid ss a) v)
 unfolding gathered rests_of
 gathered-cons braid is s ss a v =
-    ap (λ f. value_at braid.field (times_letter f a) v) (extended-append braid.field (lifts braid) (here (nat_eq a s.letter) s.rest) (rests_of a ss))
-    ∙ ap (λ f. value_at braid.field f v) (times_letter-append (symmetrized braid (here (nat_eq a s.letter) s.rest)) (symmetrized braid (rests_of a ss)) a)
-    ∙ value_at-append braid.field is (times_letter (symmetrized braid (here (nat_eq a s.letter) s.rest)) a) (gathered braid ss a) v
+    ap (λ f. value_at braid.field (times_letter f a) v) (linear_map-append braid.field (lifts braid) (here (nat_eq a s.letter) s.rest) (rests_of a ss))
+    ∙ ap (λ f. value_at braid.field f v) (times_letter-append (symmetrizer_image braid (here (nat_eq a s.letter) s.rest)) (symmetrizer_image braid (rests_of a ss)) a)
+    ∙ value_at-append braid.field is (times_letter (symmetrizer_image braid (here (nat_eq a s.letter) s.rest)) a) (gathered braid ss a) v
     ∙ ap (λ n. plus braid.field n (value_at braid.field (gathered braid ss a) v)) (gathered_here braid is s a v (nat_eq a s.letter) (λ e. (Decides-eqb a s.letter).0 e))
 
 gathered-nil : (braid : BraidValue) (a : ℕ) (v : List ℕ) → value_at braid.field (gathered braid [] a) v ≡ 0
@@ -95,11 +95,11 @@ gathered_total braid is (s ∷ ss) v over =
 
 -- the image under the derivation by a and the symmetrizer, with a put behind
 abbrev pub part : BraidValue → ℕ → List ℕ → Combination
-part braid a w = times_letter (symmetrized braid (derived_word braid a w)) a
+part braid a w = times_letter (symmetrizer_image braid (derived_word braid a w)) a
 
 part_is_gathered : (braid : BraidValue) (a : ℕ) (w : List ℕ) → part braid a w ≡ gathered braid (summands braid [] w) a
 unfolding gathered
-part_is_gathered braid a w = ap (λ d. times_letter (symmetrized braid d) a) (derived_word_is_rests braid a w)
+part_is_gathered braid a w = ap (λ d. times_letter (symmetrizer_image braid d) a) (derived_word_is_rests braid a w)
 
 pub lifts_factor : (braid : BraidValue) → IsBraid braid → (m : ℕ) (w : List ℕ) → length w ≡ suc m → IsWordOver braid.letters w → HasSameValues braid.field (lifts braid w) (flat_map (λ a. part braid a w) (up_to braid.letters))
 lifts_factor braid is m w size over v =
@@ -111,24 +111,24 @@ lifts_factor braid is m w size over v =
 
 -- ---- all words
 
-pub extended-flat_map : (k : FieldValue) → IsField k → (image : ℕ → List ℕ → Combination) (js : List ℕ) (f : Combination) →
-    HasSameValues k (extended k (λ w. flat_map (λ a. image a w) js) f) (flat_map (λ a. extended k (image a) f) js)
-extended-flat_map k is image [] f = nothing f
+pub linear_map-flat_map : (k : FieldValue) → IsField k → (image : ℕ → List ℕ → Combination) (js : List ℕ) (f : Combination) →
+    HasSameValues k (linear_map k (λ w. flat_map (λ a. image a w) js) f) (flat_map (λ a. linear_map k (image a) f) js)
+linear_map-flat_map k is image [] f = nothing f
   where
-    nothing : (g : Combination) → HasSameValues k (extended k (λ w. []) g) []
+    nothing : (g : Combination) → HasSameValues k (linear_map k (λ w. []) g) []
     nothing [] v = refl
     nothing (t ∷ g) v = nothing g v
-extended-flat_map k is image (j ∷ js) f = λ v.
-    extended-sum k is (image j) (λ w. flat_map (λ a. image a w) js) f v
-    ∙ same_append k is (extended k (image j) f) (extended k (λ w. flat_map (λ a. image a w) js) f) (extended k (image j) f) (flat_map (λ a. extended k (image a) f) js) (λ u. refl) (extended-flat_map k is image js f) v
+linear_map-flat_map k is image (j ∷ js) f = λ v.
+    linear_map-sum k is (image j) (λ w. flat_map (λ a. image a w) js) f v
+    ∙ same_append k is (linear_map k (image j) f) (linear_map k (λ w. flat_map (λ a. image a w) js) f) (linear_map k (image j) f) (flat_map (λ a. linear_map k (image a) f) js) (λ u. refl) (linear_map-flat_map k is image js f) v
 
 -- the part of a letter, extended
-pub extended_part : (braid : BraidValue) → IsField braid.field → (a : ℕ) (f : Combination) → HasSameValues braid.field (extended braid.field (part braid a) f) (times_letter (symmetrized braid (derived braid a f)) a)
+pub extended_part : (braid : BraidValue) → IsField braid.field → (a : ℕ) (f : Combination) → HasSameValues braid.field (linear_map braid.field (part braid a) f) (times_letter (symmetrizer_image braid (skew_derivative braid a f)) a)
 extended_part braid is a f v =
-    extended_same k is (part braid a) (λ w. extended k put (extended k (lifts braid) (derived_word braid a w))) f (λ w u. times_letter_is_extended k is (symmetrized braid (derived_word braid a w)) a u) v
-    ∙ sym (extended-extended k is (λ w. extended k (lifts braid) (derived_word braid a w)) put f v)
-    ∙ same_images k is put (extended k (λ w. extended k (lifts braid) (derived_word braid a w)) f) (symmetrized braid (derived braid a f)) (λ u. sym (extended-extended k is (derived_word braid a) (lifts braid) f u)) v
-    ∙ sym (times_letter_is_extended k is (symmetrized braid (derived braid a f)) a v)
+    extended_same k is (part braid a) (λ w. linear_map k put (linear_map k (lifts braid) (derived_word braid a w))) f (λ w u. times_letter_is_extended k is (symmetrizer_image braid (derived_word braid a w)) a u) v
+    ∙ sym (linear_map-linear_map k is (λ w. linear_map k (lifts braid) (derived_word braid a w)) put f v)
+    ∙ same_images k is put (linear_map k (λ w. linear_map k (lifts braid) (derived_word braid a w)) f) (symmetrizer_image braid (skew_derivative braid a f)) (λ u. sym (linear_map-linear_map k is (derived_word braid a) (lifts braid) f u)) v
+    ∙ sym (times_letter_is_extended k is (symmetrizer_image braid (skew_derivative braid a f)) a v)
   where
     k : FieldValue
     k = braid.field
@@ -141,12 +141,12 @@ same_flat_maps k is f g [] h v = refl
 same_flat_maps k is f g (j ∷ js) h v = same_append k is (f j) (flat_map f js) (g j) (flat_map g js) (h j) (same_flat_maps k is f g js h) v
 
 pub factors : (braid : BraidValue) → IsBraid braid → (m : ℕ) (f : Combination) → HasDegree (suc m) f → IsOver braid.letters f →
-    HasSameValues braid.field (symmetrized braid f) (flat_map (λ a. times_letter (symmetrized braid (derived braid a f)) a) (up_to braid.letters))
+    HasSameValues braid.field (symmetrizer_image braid f) (flat_map (λ a. times_letter (symmetrizer_image braid (skew_derivative braid a f)) a) (up_to braid.letters))
 factors braid is m f degree over v =
     let k : FieldValue = braid.field in
     extended_same_on k is.field (lifts braid) (λ w. flat_map (λ a. part braid a w) (up_to braid.letters)) f (each f degree over) v
-    ∙ extended-flat_map k is.field (part braid) (up_to braid.letters) f v
-    ∙ same_flat_maps k is.field (λ a. extended k (part braid a) f) (λ a. times_letter (symmetrized braid (derived braid a f)) a) (up_to braid.letters) (λ a. extended_part braid is.field a f) v
+    ∙ linear_map-flat_map k is.field (part braid) (up_to braid.letters) f v
+    ∙ same_flat_maps k is.field (λ a. linear_map k (part braid a) f) (λ a. times_letter (symmetrizer_image braid (skew_derivative braid a f)) a) (up_to braid.letters) (λ a. extended_part braid is.field a f) v
   where
     each : (g : Combination) → HasDegree (suc m) g → IsOver braid.letters g → AllByRecursion (λ t. HasSameValues braid.field (lifts braid t.word) (flat_map (λ a. part braid a t.word) (up_to braid.letters))) g
     each [] degree over = tt

@@ -12,8 +12,8 @@ use Rattle.nichols_tensor.proofs.Letters.{from_up_to}
 use Rattle.nichols_tensor.proofs.Tests.{same_answer}
 use Rattle.nichols_braid.specs.Braid.{BraidValue, IsBraid, IsLetter}
 use Rattle.nichols_braid.specs.Lift.{lift}
-use Rattle.nichols_braid.specs.Symmetrizer.{permutations, lifts, symmetrized}
-use Rattle.nichols_braid.specs.Derivation.{derived}
+use Rattle.nichols_braid.specs.Symmetrizer.{permutations, lifts, symmetrizer_image}
+use Rattle.nichols_braid.specs.Derivation.{skew_derivative}
 use Rattle.nichols_braid.specs.Kernel.{IsInKernel, IsKilled, is_in_kernel, is_killed}
 use Rattle.nichols_braid.specs.RightProduct.{times_letter}
 use Rattle.nichols_braid.proofs.Maps.{extended_same_on, extended_identity, times_letter_is_zero}
@@ -81,7 +81,7 @@ pub lifts_of_empty : (braid : BraidValue) → lifts braid [] ≡ single []
 unfolding lifts permutations lift
 lifts_of_empty braid = refl
 
-pub symmetrized_0 : (braid : BraidValue) → IsField braid.field → (f : Combination) → HasDegree 0 f → HasSameValues braid.field (symmetrized braid f) f
+pub symmetrized_0 : (braid : BraidValue) → IsField braid.field → (f : Combination) → HasDegree 0 f → HasSameValues braid.field (symmetrizer_image braid f) f
 symmetrized_0 braid is f degree w = extended_same_on braid.field is (lifts braid) single f (each f degree) w ∙ extended_identity braid.field is f w
   where
     empty : (v : List ℕ) → length v ≡ 0 → HasSameValues braid.field (lifts braid v) (single v)
@@ -97,19 +97,19 @@ symmetrized_0 braid is f degree w = extended_same_on braid.field is (lifts braid
 pub killed_in_kernel : (braid : BraidValue) → IsBraid braid → (m : ℕ) (f : Combination) → HasDegree m f → IsOver braid.letters f → IsInKernel braid f → IsKilled braid m f
 killed_in_kernel braid is zero f degree over h = λ w. sym (symmetrized_0 braid is.field f degree w) ∙ h w
 killed_in_kernel braid is (suc m) f degree over h = λ a l.
-    killed_in_kernel braid is m (derived braid a f) (derived_degree braid a m f degree) (derived_over braid is.rack a l f over)
-    (λ v. sym (at_last braid.field is.field braid.letters (λ b. symmetrized braid (derived braid b f)) a l v) ∙ sym (factors braid is m f degree over (v ++ a ∷ [])) ∙ h (v ++ a ∷ []))
+    killed_in_kernel braid is m (skew_derivative braid a f) (derived_degree braid a m f degree) (derived_over braid is.rack a l f over)
+    (λ v. sym (at_last braid.field is.field braid.letters (λ b. symmetrizer_image braid (skew_derivative braid b f)) a l v) ∙ sym (factors braid is m f degree over (v ++ a ∷ [])) ∙ h (v ++ a ∷ []))
 
 pub in_kernel_killed : (braid : BraidValue) → IsBraid braid → (m : ℕ) (f : Combination) → HasDegree m f → IsOver braid.letters f → IsKilled braid m f → IsInKernel braid f
 in_kernel_killed braid is zero f degree over h = λ w. symmetrized_0 braid is.field f degree w ∙ h w
 in_kernel_killed braid is (suc m) f degree over h =
-    let gone : (a : ℕ) → Contains (up_to braid.letters) a → IsInKernel braid (derived braid a f) =
-    λ a i. in_kernel_killed braid is m (derived braid a f) (derived_degree braid a m f degree) (derived_over braid is.rack a (from_up_to braid.letters a i) f over) (h a (from_up_to braid.letters a i)) in
+    let gone : (a : ℕ) → Contains (up_to braid.letters) a → IsInKernel braid (skew_derivative braid a f) =
+    λ a i. in_kernel_killed braid is m (skew_derivative braid a f) (derived_degree braid a m f degree) (derived_over braid is.rack a (from_up_to braid.letters a i) f over) (h a (from_up_to braid.letters a i)) in
     λ w.
     factors braid is m f degree over w
-    ∙ value_at-flat_map braid.field is.field (λ a. times_letter (symmetrized braid (derived braid a f)) a) (up_to braid.letters) w
-    ∙ total_zero braid.field is.field (λ a. value_at braid.field (times_letter (symmetrized braid (derived braid a f)) a) w) (up_to braid.letters)
-    (λ a i. times_letter_is_zero braid.field is.field (symmetrized braid (derived braid a f)) a (gone a i) w)
+    ∙ value_at-flat_map braid.field is.field (λ a. times_letter (symmetrizer_image braid (skew_derivative braid a f)) a) (up_to braid.letters) w
+    ∙ total_zero braid.field is.field (λ a. value_at braid.field (times_letter (symmetrizer_image braid (skew_derivative braid a f)) a) w) (up_to braid.letters)
+    (λ a i. times_letter_is_zero braid.field is.field (symmetrizer_image braid (skew_derivative braid a f)) a (gone a i) w)
 
 -- the two tests agree
 pub tests_agree : (braid : BraidValue) → IsBraid braid → (m : ℕ) (f : Combination) → HasDegree m f → IsOver braid.letters f → is_in_kernel braid m f ≡ is_killed braid m f

@@ -5,8 +5,8 @@ use Rattle.nichols_field.specs.Field.{IsElement, times}
 use Rattle.nichols_tensor.specs.Combination.{Term}
 use Rattle.nichols_tensor.specs.Words.{IsWordOver}
 use Rattle.nichols_braid.specs.Braid.{BraidValue, IsBraid, act, scalar}
-use Rattle.nichols_braid.specs.Crossing.{cross, cross_scalar, crossed}
-use Rattle.nichols_braid.specs.Lift.{exchanged, IsDescentAt, IsSorted, IsDescending, first_descent, lift}
+use Rattle.nichols_braid.specs.Crossing.{cross, cross_scalar, crossed_term}
+use Rattle.nichols_braid.specs.Lift.{exchanged_at, IsDescentAt, IsSorted, IsDescending, first_descent, lift}
 use Rattle.nichols_lift.specs.ClosedForm.{closed_form}
 use Rattle.nichols_lift.specs.Perm.{IsPerm}
 use Rattle.nichols_lift.proofs.LiftLaws.{reduced_lists_agree}
@@ -54,7 +54,7 @@ term w c = record { word = w; coefficient = c }
 
 -- from the word and the scalar every list that is descending for these end places leads to the lift
 pub record IsLeading (braid : BraidValue) (perm word ends now : List ℕ) (met : ℕ) : Type 0 where
-  pub leads : (places : List ℕ) → IsDescending ends places → crossed braid places (term now met) ≡ lift braid perm word
+  pub leads : (places : List ℕ) → IsDescending ends places → crossed_term braid places (term now met) ≡ lift braid perm word
   pub size : length now ≡ length ends
   pub letters : IsWordOver braid.letters now
   pub element : IsElement braid.field met
@@ -67,11 +67,11 @@ leading_start braid is perm word p size letters one = record {
   element = one;
 }
 
-pub leading-cross : (braid : BraidValue) (perm word ends now : List ℕ) (met i : ℕ) → IsLeading braid perm word ends now met → IsDescentAt i ends → (ends' now' : List ℕ) (scalar_met met' : ℕ) → ends' ≡ exchanged i ends → now' ≡ cross braid i now → length now' ≡ length now →
+pub leading-cross : (braid : BraidValue) (perm word ends now : List ℕ) (met i : ℕ) → IsLeading braid perm word ends now met → IsDescentAt i ends → (ends' now' : List ℕ) (scalar_met met' : ℕ) → ends' ≡ exchanged_at i ends → now' ≡ cross braid i now → length now' ≡ length now →
     IsWordOver braid.letters now' → scalar_met ≡ cross_scalar braid i now → met' ≡ times braid.field met scalar_met → IsElement braid.field met' → IsLeading braid perm word ends' now' met'
 leading-cross braid perm word ends now met i h d ends' now' scalar_met met' ends_is now_is size letters scalar_is met_is element = record {
   leads = λ places descending.
-      ap₂ (λ (w : List ℕ) (c : ℕ). crossed braid places (term w c)) now_is (met_is ∙ ap (times braid.field met) scalar_is)
+      ap₂ (λ (w : List ℕ) (c : ℕ). crossed_term braid places (term w c)) now_is (met_is ∙ ap (times braid.field met) scalar_is)
       ∙ h.leads (i ∷ places) (d, subst (λ e. IsDescending e places) ends_is descending);
   size = size ∙ h.size ∙ sym (exchanged_length i ends) ∙ ap length (sym ends_is);
   letters = letters;
@@ -90,7 +90,7 @@ closed_lift braid is perm word p size letters = (reduced_lists_agree braid is (l
 pub record IsFollowing (braid : BraidValue) (perm word rest now : List ℕ) (met : ℕ) : Type 0 where
   pub ends : List ℕ
   pub descending : IsDescending ends rest
-  pub leads : crossed braid rest (term now met) ≡ lift braid perm word
+  pub leads : crossed_term braid rest (term now met) ≡ lift braid perm word
   pub size : length now ≡ length ends
   pub letters : IsWordOver braid.letters now
   pub element : IsElement braid.field met
@@ -119,11 +119,11 @@ following-cross braid perm word list now met k within h now' scalar_met met' now
     let d : IsDescending h.ends (i ∷ drop (suc k) list) = subst (IsDescending h.ends) (drop-cons list k 0 within) h.descending in
     subst (λ n. IsFollowing braid perm word (drop n list) now' met') (sym next)
     (record {
-      ends = exchanged i h.ends;
+      ends = exchanged_at i h.ends;
       descending = d.1;
       leads =
-          ap₂ (λ (w : List ℕ) (c : ℕ). crossed braid (drop (suc k) list) (term w c)) now_is (met_is ∙ ap (times braid.field met) scalar_is)
-          ∙ ap (λ places. crossed braid places (term now met)) (sym (drop-cons list k 0 within)) ∙ h.leads;
+          ap₂ (λ (w : List ℕ) (c : ℕ). crossed_term braid (drop (suc k) list) (term w c)) now_is (met_is ∙ ap (times braid.field met) scalar_is)
+          ∙ ap (λ places. crossed_term braid places (term now met)) (sym (drop-cons list k 0 within)) ∙ h.leads;
       size = size ∙ h.size ∙ sym (exchanged_length i h.ends);
       letters = letters;
       element = element;
@@ -134,5 +134,5 @@ pub none_left : (ends : List ℕ) (found : Option ℕ) → found ≡ first_desce
 none_left ends None is h = none_is_sorted ends (sym is)
 none_left ends (Some i) is h = absurd (h i refl)
 
-pub fewer_left : (i : ℕ) (ends next : List ℕ) → IsDescentAt i ends → next ≡ exchanged i ends → inversions next < inversions ends
-fewer_left i ends next d e = subst (λ n. inversions n < inversions ends) (sym e) (let less : suc (inversions (exchanged i ends)) ≡ inversions ends = one_fewer i ends d in omega arith)
+pub fewer_left : (i : ℕ) (ends next : List ℕ) → IsDescentAt i ends → next ≡ exchanged_at i ends → inversions next < inversions ends
+fewer_left i ends next d e = subst (λ n. inversions n < inversions ends) (sym e) (let less : suc (inversions (exchanged_at i ends)) ≡ inversions ends = one_fewer i ends d in omega arith)

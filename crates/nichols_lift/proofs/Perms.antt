@@ -12,7 +12,7 @@ use Rattle.nichols_tensor.proofs.Entries.{any_of, some_of}
 use Rattle.std.proofs.lemmas.Bool.{cases_lt}
 use Rattle.nichols_tensor.proofs.Letters.{in_up_to, from_up_to, up_to_length}
 use Rattle.nichols_braid.specs.Rearrangement.{IsRearrangement}
-use Rattle.nichols_braid.specs.Lift.{exchanged, IsDescentAt, first_descent}
+use Rattle.nichols_braid.specs.Lift.{exchanged_at, IsDescentAt, first_descent}
 use Rattle.nichols_braid.proofs.Onto.{rearranged_if_all}
 use Rattle.nichols_braid.proofs.Rearranged.{up_to_distinct}
 use Rattle.nichols_lift.specs.declared.TheConstants.{PLACE_LIMIT}
@@ -112,18 +112,18 @@ descents_end ends i some end h = ap (λ f. option_map (λ p. p + (i - 1)) f) (sy
 
 -- ---- an exchange in the array
 
-set_twice : (j d : ℕ) (xs : List ℕ) → suc j < length xs → set (set xs j (get_or xs (suc j) d)) (suc j) (get_or xs j d) ≡ exchanged (suc j) xs
+set_twice : (j d : ℕ) (xs : List ℕ) → suc j < length xs → set (set xs j (get_or xs (suc j) d)) (suc j) (get_or xs j d) ≡ exchanged_at (suc j) xs
 set_twice zero d [] h = absurd (omega arith)
 set_twice zero d (a ∷ []) h = absurd (omega arith)
 set_twice zero d (a ∷ b ∷ xs) h = refl
 set_twice (suc j) d [] h = absurd (omega arith)
 set_twice (suc j) d (a ∷ xs) h = ap (λ r. a ∷ r) (set_twice j d xs (omega arith))
 
-swap_is_exchange : (j : ℕ) (xs : List ℕ) → suc j < length xs → swap xs j (suc j) ≡ exchanged (suc j) xs
+swap_is_exchange : (j : ℕ) (xs : List ℕ) → suc j < length xs → swap xs j (suc j) ≡ exchanged_at (suc j) xs
 swap_is_exchange j [] h = absurd (omega arith)
 swap_is_exchange j (a ∷ xs) h = set_twice j a (a ∷ xs) h
 
-exchanged_prefix : (j n : ℕ) (xs : List ℕ) → suc j < n → n ≤ length xs → take n (exchanged (suc j) xs) ≡ exchanged (suc j) (take n xs)
+exchanged_prefix : (j n : ℕ) (xs : List ℕ) → suc j < n → n ≤ length xs → take n (exchanged_at (suc j) xs) ≡ exchanged_at (suc j) (take n xs)
 exchanged_prefix j zero xs h l = absurd (omega arith)
 exchanged_prefix zero (suc zero) xs h l = absurd (omega arith)
 exchanged_prefix zero (suc (suc n)) [] h l = absurd (omega arith)
@@ -132,7 +132,7 @@ exchanged_prefix zero (suc (suc n)) (a ∷ b ∷ xs) h l = refl
 exchanged_prefix (suc j) (suc n) [] h l = absurd (omega arith)
 exchanged_prefix (suc j) (suc n) (a ∷ xs) h l = ap (λ r. a ∷ r) (exchanged_prefix j n xs (omega arith) (omega arith))
 
-exchanged_rest : (j n : ℕ) (xs : List ℕ) → suc j < n → drop n (exchanged (suc j) xs) ≡ drop n xs
+exchanged_rest : (j n : ℕ) (xs : List ℕ) → suc j < n → drop n (exchanged_at (suc j) xs) ≡ drop n xs
 exchanged_rest j zero xs h = absurd (omega arith)
 exchanged_rest zero (suc zero) xs h = absurd (omega arith)
 exchanged_rest zero (suc (suc n)) [] h = refl
@@ -142,16 +142,16 @@ exchanged_rest (suc j) (suc n) [] h = refl
 exchanged_rest (suc j) (suc n) (a ∷ xs) h = exchanged_rest j n xs (omega arith)
 
 -- the array after an exchange
-pub exchanged_array : (n i : ℕ) (xs ys : List ℕ) → IsInline PLACE_LIMIT IsPerm n xs → IsDescentAt i (take n xs) → ys ≡ swap xs (i - 1) i → (take n ys ≡ exchanged i (take n xs)) × IsInline PLACE_LIMIT IsPerm n ys
+pub exchanged_array : (n i : ℕ) (xs ys : List ℕ) → IsInline PLACE_LIMIT IsPerm n xs → IsDescentAt i (take n xs) → ys ≡ swap xs (i - 1) i → (take n ys ≡ exchanged_at i (take n xs)) × IsInline PLACE_LIMIT IsPerm n ys
 exchanged_array n zero xs ys h d e = absurd d
 exchanged_array n (suc j) xs ys h d e =
     let back : suc j - 1 ≡ j = omega arith in
     let size : length (take n xs) ≡ n = length_kept PLACE_LIMIT IsPerm n xs h in
     let within : suc j < n = let w : (1 ≤ suc j) × (suc j < length (take n xs)) = descent_within (suc j) (take n xs) d in omega (arith, w.1) in
     let room : n ≤ length xs = omega (arith, h.short, h.whole) in
-    let shape : ys ≡ exchanged (suc j) xs = e ∙ ap (λ i. swap xs i (suc j)) back ∙ swap_is_exchange j xs (omega arith) in
-    let front : take n ys ≡ exchanged (suc j) (take n xs) = ap (take n) shape ∙ exchanged_prefix j n xs within room in
-    let long : length (exchanged (suc j) (take n xs)) ≡ length (take n xs) = exchanged_length (suc j) (take n xs) in (
+    let shape : ys ≡ exchanged_at (suc j) xs = e ∙ ap (λ i. swap xs i (suc j)) back ∙ swap_is_exchange j xs (omega arith) in
+    let front : take n ys ≡ exchanged_at (suc j) (take n xs) = ap (take n) shape ∙ exchanged_prefix j n xs within room in
+    let long : length (exchanged_at (suc j) (take n xs)) ≡ length (take n xs) = exchanged_length (suc j) (take n xs) in (
       front,
       record {
         short = h.short;
@@ -159,7 +159,7 @@ exchanged_array n (suc j) xs ys h d e =
         padded = ap (drop n) shape ∙ exchanged_rest j n xs within ∙ h.padded;
         holds = subst IsPerm (sym front) (record {
           short = subst (λ l. l ≤ PLACE_LIMIT) (sym long) h.holds.short;
-          rearrangement = subst (λ l. IsRearrangement l (exchanged (suc j) (take n xs))) (sym long) (IsPermutation-trans (up_to (length (take n xs))) (take n xs) (exchanged (suc j) (take n xs)) h.holds.rearrangement (exchanged_is_permutation (suc j) (take n xs) d));
+          rearrangement = subst (λ l. IsRearrangement l (exchanged_at (suc j) (take n xs))) (sym long) (IsPermutation-trans (up_to (length (take n xs))) (take n xs) (exchanged_at (suc j) (take n xs)) h.holds.rearrangement (exchanged_is_permutation (suc j) (take n xs) d));
         });
       },
     )

@@ -12,8 +12,8 @@ use Rattle.nichols_tensor.proofs.Values.{value_is_element, value_at-append}
 use Rattle.nichols_tensor.proofs.Building.{elements-append}
 use Rattle.nichols_tensor.proofs.Linear.{same_images, extended_is_zero}
 use Rattle.nichols_braid.specs.Braid.{BraidValue, IsBraid}
-use Rattle.nichols_braid.specs.Symmetrizer.{lifts, symmetrized}
-use Rattle.nichols_braid.specs.Derivation.{derived}
+use Rattle.nichols_braid.specs.Symmetrizer.{lifts, symmetrizer_image}
+use Rattle.nichols_braid.specs.Derivation.{skew_derivative}
 use Rattle.nichols_braid.specs.RightProduct.{times_letter}
 use Rattle.nichols_braid.proofs.Maps.{times_letter_same, times_letter_is_zero}
 use Rattle.nichols_lift.specs.declared.TheConstants.{PLACE_LIMIT}
@@ -66,30 +66,30 @@ elements-times_letter k (t ∷ f) b h = (h.0, elements-times_letter k f b h.1)
 
 -- a letter with a derivative, and the image of that
 pub summed-part : (braid : BraidValue) → IsField braid.field → (f : Combination) (n letter m : ℕ) (out derivative part next : Combination) → IsSummed braid f n out → letter ≡ n + 1 → m ≡ n + 1 →
-    HasSameValues braid.field derivative (derived braid letter f) → HasSameValues braid.field part (symmetrized braid derivative) → AllElements braid.field part → next ≡ out ++ times_letter part letter → IsSummed braid f m next
+    HasSameValues braid.field derivative (skew_derivative braid letter f) → HasSameValues braid.field part (symmetrizer_image braid derivative) → AllElements braid.field part → next ≡ out ++ times_letter part letter → IsSummed braid f m next
 summed-part braid is f n letter m out derivative part next h at count derivative_is part_is elements next_is =
     let k : FieldValue = braid.field in
-    let same : HasSameValues k part (symmetrized braid (derived braid (suc n) f)) = λ v. part_is v ∙ same_images k is (lifts braid) derivative (derived braid letter f) derivative_is v ∙ ap (λ a. value_at k (symmetrized braid (derived braid a f)) v) (at ∙ add-one n) in
+    let same : HasSameValues k part (symmetrizer_image braid (skew_derivative braid (suc n) f)) = λ v. part_is v ∙ same_images k is (lifts braid) derivative (skew_derivative braid letter f) derivative_is v ∙ ap (λ a. value_at k (symmetrizer_image braid (skew_derivative braid a f)) v) (at ∙ add-one n) in
     subst (λ i. IsSummed braid f i next) (sym (count ∙ add-one n))
     (subst (IsSummed braid f (suc n)) (sym (next_is ∙ ap (λ a. out ++ times_letter part a) (at ∙ add-one n)))
-    (summed_more braid is f n out (times_letter part (suc n)) h (elements-times_letter k part (suc n) elements) (times_letter_same k is part (symmetrized braid (derived braid (suc n) f)) (suc n) same)))
+    (summed_more braid is f n out (times_letter part (suc n)) h (elements-times_letter k part (suc n) elements) (times_letter_same k is part (symmetrizer_image braid (skew_derivative braid (suc n) f)) (suc n) same)))
 
 -- a letter whose derivative is zero
 pub summed-skip : (braid : BraidValue) → IsField braid.field → (f : Combination) (n letter m : ℕ) (out derivative : Combination) → IsSummed braid f n out → letter ≡ n + 1 → m ≡ n + 1 →
-    HasSameValues braid.field derivative (derived braid letter f) → derivative ≡ [] → IsSummed braid f m out
+    HasSameValues braid.field derivative (skew_derivative braid letter f) → derivative ≡ [] → IsSummed braid f m out
 summed-skip braid is f n letter m out derivative h at count derivative_is none =
     let k : FieldValue = braid.field in
-    let gone : IsZero k (derived braid (suc n) f) = λ v. ap (λ a. value_at k (derived braid a f) v) (sym (at ∙ add-one n)) ∙ sym (derivative_is v) ∙ ap (λ g. value_at k g v) none in
-    let zero_part : IsZero k (letter_part braid f (suc n)) = times_letter_is_zero k is (symmetrized braid (derived braid (suc n) f)) (suc n) (extended_is_zero k is (lifts braid) (derived braid (suc n) f) gone) in
+    let gone : IsZero k (skew_derivative braid (suc n) f) = λ v. ap (λ a. value_at k (skew_derivative braid a f) v) (sym (at ∙ add-one n)) ∙ sym (derivative_is v) ∙ ap (λ g. value_at k g v) none in
+    let zero_part : IsZero k (letter_part braid f (suc n)) = times_letter_is_zero k is (symmetrizer_image braid (skew_derivative braid (suc n) f)) (suc n) (extended_is_zero k is (lifts braid) (skew_derivative braid (suc n) f) gone) in
     subst (λ i. IsSummed braid f i out) (sym (count ∙ add-one n))
     (subst (IsSummed braid f (suc n)) (append-nil out) (summed_more braid is f n out [] h tt (λ v. sym (zero_part v))))
 
-pub summed_all : (braid : BraidValue) → IsBraid braid → (f : Combination) → IsOver braid.letters f → (n : ℕ) (out r : Combination) → n ≡ braid.letters → IsSummed braid f n out → HasSameValues braid.field r out → HasSameValues braid.field r (symmetrized braid f)
+pub summed_all : (braid : BraidValue) → IsBraid braid → (f : Combination) → IsOver braid.letters f → (n : ℕ) (out r : Combination) → n ≡ braid.letters → IsSummed braid f n out → HasSameValues braid.field r out → HasSameValues braid.field r (symmetrizer_image braid f)
 summed_all braid is f over n out r count h same v =
     same v ∙ h.value v ∙ ap (λ m. plus braid.field (value_at braid.field (constant (value_at braid.field f [])) v) (total braid.field (λ a. value_at braid.field (letter_part braid f a) v) (up_to m))) count ∙ sym (image_is braid is f over v)
 
 -- words of no letters
-pub image_of_constants : (braid : BraidValue) → IsField braid.field → (f r : Combination) (limit : ℕ) → limit ≡ 0 → AllAtMost limit f → r ≡ f → HasSameValues braid.field r (symmetrized braid f)
+pub image_of_constants : (braid : BraidValue) → IsField braid.field → (f r : Combination) (limit : ℕ) → limit ≡ 0 → AllAtMost limit f → r ≡ f → HasSameValues braid.field r (symmetrizer_image braid f)
 image_of_constants braid is f r limit none short same v = ap (λ g. value_at braid.field g v) same ∙ sym (symmetrized_0 braid is f (each f short) v)
   where
     each : (g : Combination) → AllAtMost limit g → HasDegree 0 g

@@ -11,7 +11,7 @@ use Rattle.nichols_braid.specs.Braid.{BraidValue}
 use Rattle.nichols_braid.specs.Lift.{IsSorted}
 use Rattle.nichols_braid.specs.Rearrangement.{IsRearrangement}
 use Rattle.nichols_braid.proofs.Rearranged.{consecutive, rearranged_length, rearranged_bounds, rearranged_distinct}
-use Rattle.nichols_lift.specs.ClosedForm.{Placed, acted, acted_scalar, ended, ended_scalar, letter_at}
+use Rattle.nichols_lift.specs.ClosedForm.{Placed, acted_letter, acted_scalar, letters_at_ends, ended_scalar, letter_at}
 use Rattle.nichols_lift.proofs.Acted.{placed}
 
 -- ---- sorted
@@ -80,7 +80,7 @@ below_all n x ps h = (omega arith, below_more n ps h)
 not_right : (e n : ℕ) → n ≤ e → nat_lt e n ≡ false
 not_right e n h = grind (arith, nat_tests)
 
-acted_by_none : (braid : BraidValue) (n : ℕ) (ps : List Placed) → AllBelow n ps → (x : ℕ) → acted braid ps (suc n) x ≡ x
+acted_by_none : (braid : BraidValue) (n : ℕ) (ps : List Placed) → AllBelow n ps → (x : ℕ) → acted_letter braid ps (suc n) x ≡ x
 unfolding AllBelow
 acted_by_none braid n [] h x = refl
 acted_by_none braid n (p ∷ ps) h x = cond-false (nat_lt (suc n) p.place) _ _ (not_right (suc n) p.place (omega (arith, h.0))) ∙ acted_by_none braid n ps h.1 x
@@ -95,7 +95,7 @@ own : ℕ → List ℕ → List Placed
 own n [] = []
 own n (x ∷ w) = placed n x ∷ own (suc n) w
 
-ended_sorted : (braid : BraidValue) (n : ℕ) (ps : List Placed) → AllBelow n ps → (w : List ℕ) → ended braid ps (consecutive (suc n) (length w)) w ≡ own (suc n) w
+ended_sorted : (braid : BraidValue) (n : ℕ) (ps : List Placed) → AllBelow n ps → (w : List ℕ) → letters_at_ends braid ps (consecutive (suc n) (length w)) w ≡ own (suc n) w
 unfolding own
 ended_sorted braid n ps h [] = refl
 ended_sorted braid n ps h (x ∷ w) = ap₂ (λ y r. placed (suc n) y ∷ r) (acted_by_none braid n ps h x) (ended_sorted braid (suc n) (placed (suc n) x ∷ ps) (below_all n x ps h) w)
@@ -126,7 +126,7 @@ none_below : (n : ℕ) → AllBelow n []
 unfolding AllBelow
 none_below n = tt
 
-pub closed_letters_sorted : (braid : BraidValue) (w : List ℕ) → map (letter_at (ended braid [] (consecutive 1 (length w)) w)) (consecutive 1 (length w)) ≡ w
+pub closed_letters_sorted : (braid : BraidValue) (w : List ℕ) → map (letter_at (letters_at_ends braid [] (consecutive 1 (length w)) w)) (consecutive 1 (length w)) ≡ w
 closed_letters_sorted braid w = ap (λ ps. map (letter_at ps) (consecutive 1 (length w))) (ended_sorted braid 0 [] (none_below 0) w) ∙ own_letters 1 w
 
 pub closed_scalar_sorted : (braid : BraidValue) → IsField braid.field → (w : List ℕ) → ended_scalar braid [] (consecutive 1 (length w)) w ≡ 1

@@ -10,13 +10,13 @@ use Rattle.nichols_field.proofs.FieldAlgebra.{swap_factors}
 use Rattle.nichols_tensor.specs.Words.{IsWordOver}
 use Rattle.nichols_braid.specs.Braid.{BraidValue, act, scalar, IsRack, IsCocycle}
 use Rattle.nichols_braid.specs.Crossing.{cross, cross_scalar}
-use Rattle.nichols_braid.specs.Lift.{exchanged, IsDescentAt}
-use Rattle.nichols_lift.specs.ClosedForm.{Placed, acted, acted_scalar, ended, ended_scalar, letter_at}
-use Rattle.nichols_lift.proofs.Acted.{placed, AllLetters, all_letters, none_placed, ended-crossed, ended_scalar-crossed}
+use Rattle.nichols_braid.specs.Lift.{exchanged_at, IsDescentAt}
+use Rattle.nichols_lift.specs.ClosedForm.{Placed, acted_letter, acted_scalar, letters_at_ends, ended_scalar, letter_at}
+use Rattle.nichols_lift.proofs.Acted.{placed, AllLetters, all_letters, none_placed, letters_at_ends-crossed, ended_scalar-crossed}
 
 -- ---- what a crossing leaves
 
-pub exchanged_length : (i : ℕ) (ends : List ℕ) → length (exchanged i ends) ≡ length ends
+pub exchanged_length : (i : ℕ) (ends : List ℕ) → length (exchanged_at i ends) ≡ length ends
 exchanged_length zero ends = refl
 exchanged_length (suc zero) [] = refl
 exchanged_length (suc zero) (a ∷ []) = refl
@@ -24,21 +24,13 @@ exchanged_length (suc zero) (a ∷ b ∷ ends) = refl
 exchanged_length (suc (suc i)) [] = refl
 exchanged_length (suc (suc i)) (a ∷ ends) = ap suc (exchanged_length (suc i) ends)
 
-pub cross_length : (braid : BraidValue) (i : ℕ) (w : List ℕ) → length (cross braid i w) ≡ length w
-cross_length braid zero w = refl
-cross_length braid (suc zero) [] = refl
-cross_length braid (suc zero) (a ∷ []) = refl
-cross_length braid (suc zero) (a ∷ b ∷ w) = refl
-cross_length braid (suc (suc i)) [] = refl
-cross_length braid (suc (suc i)) (a ∷ w) = ap suc (cross_length braid (suc i) w)
-
-pub exchanged_is_permutation : (i : ℕ) (ends : List ℕ) → IsDescentAt i ends → IsPermutation ends (exchanged i ends)
+pub exchanged_is_permutation : (i : ℕ) (ends : List ℕ) → IsDescentAt i ends → IsPermutation ends (exchanged_at i ends)
 exchanged_is_permutation zero ends h = absurd h
 exchanged_is_permutation (suc zero) [] h = absurd h
 exchanged_is_permutation (suc zero) (a ∷ []) h = absurd h
 exchanged_is_permutation (suc zero) (a ∷ b ∷ ends) h = IsPermutation-middle (a ∷ []) b ends
 exchanged_is_permutation (suc (suc i)) [] h = absurd h
-exchanged_is_permutation (suc (suc i)) (a ∷ ends) h = IsPermutation-cons a ends (exchanged (suc i) ends) (exchanged_is_permutation (suc i) ends h)
+exchanged_is_permutation (suc (suc i)) (a ∷ ends) h = IsPermutation-cons a ends (exchanged_at (suc i) ends) (exchanged_is_permutation (suc i) ends h)
 
 -- ---- the crossed letters
 
@@ -49,15 +41,15 @@ above_is_false : (a b : ℕ) → a < b → nat_lt b a ≡ false
 above_is_false a b h = grind (arith, nat_tests)
 
 -- the right letter, which the left one acts on
-right_acted : (braid : BraidValue) (earlier : List Placed) (ea a eb b : ℕ) → eb < ea → acted braid (placed ea a ∷ earlier) eb b ≡ acted braid earlier eb (act braid a b)
-right_acted braid earlier ea a eb b h = cond-true (nat_lt eb ea) (acted braid earlier eb (act braid a b)) (acted braid earlier eb b) (below_is_true eb ea h)
+right_acted : (braid : BraidValue) (earlier : List Placed) (ea a eb b : ℕ) → eb < ea → acted_letter braid (placed ea a ∷ earlier) eb b ≡ acted_letter braid earlier eb (act braid a b)
+right_acted braid earlier ea a eb b h = cond-true (nat_lt eb ea) (acted_letter braid earlier eb (act braid a b)) (acted_letter braid earlier eb b) (below_is_true eb ea h)
 
 right_scalar : (braid : BraidValue) (earlier : List Placed) (ea a eb b : ℕ) → eb < ea → acted_scalar braid (placed ea a ∷ earlier) eb b ≡ times braid.field (scalar braid a b) (acted_scalar braid earlier eb (act braid a b))
 right_scalar braid earlier ea a eb b h = cond-true (nat_lt eb ea) (times braid.field (scalar braid a b) (acted_scalar braid earlier eb (act braid a b))) (acted_scalar braid earlier eb b) (below_is_true eb ea h)
 
 -- the left letter, which the right one, crossed, doesn't act on
-left_acted : (braid : BraidValue) (earlier : List Placed) (ea a eb y : ℕ) → eb < ea → acted braid (placed eb y ∷ earlier) ea a ≡ acted braid earlier ea a
-left_acted braid earlier ea a eb y h = cond-false (nat_lt ea eb) (acted braid earlier ea (act braid y a)) (acted braid earlier ea a) (above_is_false eb ea h)
+left_acted : (braid : BraidValue) (earlier : List Placed) (ea a eb y : ℕ) → eb < ea → acted_letter braid (placed eb y ∷ earlier) ea a ≡ acted_letter braid earlier ea a
+left_acted braid earlier ea a eb y h = cond-false (nat_lt ea eb) (acted_letter braid earlier ea (act braid y a)) (acted_letter braid earlier ea a) (above_is_false eb ea h)
 
 left_scalar : (braid : BraidValue) (earlier : List Placed) (ea a eb y : ℕ) → eb < ea → acted_scalar braid (placed eb y ∷ earlier) ea a ≡ acted_scalar braid earlier ea a
 left_scalar braid earlier ea a eb y h = cond-false (nat_lt ea eb) (times braid.field (scalar braid y a) (acted_scalar braid earlier ea (act braid y a))) (acted_scalar braid earlier ea a) (above_is_false eb ea h)
@@ -75,25 +67,25 @@ swapped_tests false false x x' y y' r r' h p q s = s
 
 -- at each place the letter is the same
 pub crossed_letters : (braid : BraidValue) → IsRack braid → (earlier : List Placed) → AllLetters braid earlier → (i : ℕ) (ends w : List ℕ) → length w ≡ length ends → IsWordOver braid.letters w → IsDescentAt i ends → (e : ℕ) →
-    letter_at (ended braid earlier (exchanged i ends) (cross braid i w)) e ≡ letter_at (ended braid earlier ends w) e
+    letter_at (letters_at_ends braid earlier (exchanged_at i ends) (cross braid i w)) e ≡ letter_at (letters_at_ends braid earlier ends w) e
 crossed_letters braid rack earlier all zero ends w same over h e = absurd h
 crossed_letters braid rack earlier all (suc zero) [] w same over h e = absurd h
 crossed_letters braid rack earlier all (suc zero) (ea ∷ []) w same over h e = absurd h
 crossed_letters braid rack earlier all (suc zero) (ea ∷ eb ∷ ends) [] same over h e = absurd (omega arith)
 crossed_letters braid rack earlier all (suc zero) (ea ∷ eb ∷ ends) (a ∷ []) same over h e = absurd (omega arith)
 crossed_letters braid rack earlier all (suc zero) (ea ∷ eb ∷ ends) (a ∷ b ∷ w) same over h e =
-    swapped_tests (nat_eq eb e) (nat_eq ea e) (acted braid earlier ea a) (acted braid (placed eb (act braid a b) ∷ earlier) ea a) (acted braid earlier eb (act braid a b)) (acted braid (placed ea a ∷ earlier) eb b)
-    (letter_at (ended braid (placed eb b ∷ placed ea a ∷ earlier) ends w) e) (letter_at (ended braid (placed ea a ∷ placed eb (act braid a b) ∷ earlier) ends w) e)
+    swapped_tests (nat_eq eb e) (nat_eq ea e) (acted_letter braid earlier ea a) (acted_letter braid (placed eb (act braid a b) ∷ earlier) ea a) (acted_letter braid earlier eb (act braid a b)) (acted_letter braid (placed ea a ∷ earlier) eb b)
+    (letter_at (letters_at_ends braid (placed eb b ∷ placed ea a ∷ earlier) ends w) e) (letter_at (letters_at_ends braid (placed ea a ∷ placed eb (act braid a b) ∷ earlier) ends w) e)
     (not_both ea eb e h) (left_acted braid earlier ea a eb (act braid a b) h) (right_acted braid earlier ea a eb b h)
-    (ap (λ r. letter_at r e) (sym (ended-crossed braid rack [] earlier ea a eb b h over.0 over.1.0 (none_placed braid) ends w over.1.1)))
+    (ap (λ r. letter_at r e) (sym (letters_at_ends-crossed braid rack [] earlier ea a eb b h over.0 over.1.0 (none_placed braid) ends w over.1.1)))
 crossed_letters braid rack earlier all (suc (suc i)) [] w same over h e = absurd h
 crossed_letters braid rack earlier all (suc (suc i)) (c ∷ ends) [] same over h e = absurd (omega arith)
 crossed_letters braid rack earlier all (suc (suc i)) (c ∷ ends) (x ∷ w) same over h e =
-    ap (cond (nat_eq c e) (acted braid earlier c x)) (crossed_letters braid rack (placed c x ∷ earlier) (all_letters braid c x earlier over.0 all) (suc i) ends w (omega arith) over.1 h e)
+    ap (cond (nat_eq c e) (acted_letter braid earlier c x)) (crossed_letters braid rack (placed c x ∷ earlier) (all_letters braid c x earlier over.0 all) (suc i) ends w (omega arith) over.1 h e)
 
 -- the scalar of the crossing and the scalars that are met afterwards
 pub crossed_scalars : (braid : BraidValue) → IsRack braid → IsCocycle braid → (earlier : List Placed) → AllLetters braid earlier → (i : ℕ) (ends w : List ℕ) → length w ≡ length ends → IsWordOver braid.letters w → IsDescentAt i ends →
-    times braid.field (cross_scalar braid i w) (ended_scalar braid earlier (exchanged i ends) (cross braid i w)) ≡ ended_scalar braid earlier ends w
+    times braid.field (cross_scalar braid i w) (ended_scalar braid earlier (exchanged_at i ends) (cross braid i w)) ≡ ended_scalar braid earlier ends w
 crossed_scalars braid rack cocycle earlier all zero ends w same over h = absurd h
 crossed_scalars braid rack cocycle earlier all (suc zero) [] w same over h = absurd h
 crossed_scalars braid rack cocycle earlier all (suc zero) (ea ∷ []) w same over h = absurd h
@@ -111,5 +103,5 @@ crossed_scalars braid rack cocycle earlier all (suc zero) (ea ∷ eb ∷ ends) (
 crossed_scalars braid rack cocycle earlier all (suc (suc i)) [] w same over h = absurd h
 crossed_scalars braid rack cocycle earlier all (suc (suc i)) (c ∷ ends) [] same over h = absurd (omega arith)
 crossed_scalars braid rack cocycle earlier all (suc (suc i)) (c ∷ ends) (x ∷ w) same over h =
-    swap_factors braid.field (cross_scalar braid (suc i) w) (acted_scalar braid earlier c x) (ended_scalar braid (placed c x ∷ earlier) (exchanged (suc i) ends) (cross braid (suc i) w))
+    swap_factors braid.field (cross_scalar braid (suc i) w) (acted_scalar braid earlier c x) (ended_scalar braid (placed c x ∷ earlier) (exchanged_at (suc i) ends) (cross braid (suc i) w))
     ∙ ap (times braid.field (acted_scalar braid earlier c x)) (crossed_scalars braid rack cocycle (placed c x ∷ earlier) (all_letters braid c x earlier over.0 all) (suc i) ends w (omega arith) over.1 h)

@@ -2,28 +2,28 @@
 -- and the letters before it are lifted by each permutation of the places before.
 use Rattle.std.proofs.Common.{◌≡◌, ℕ, suc, ◌+◌, ◌-◌, ◌<◌, ◌≤◌, List, [], ◌∷◌, ◌++◌, map, length, take, drop, refl, sym, ◌∙◌, ap, ap₂, subst, arith, append_assoc}
 use Rattle.std.specs.List.{All, Contains, flat_map, insert}
-use Rattle.std.proofs.lemmas.List.{length-map, length-append, length-drop, length-take-le, take-append-drop, map-append}
+use Rattle.std.proofs.lemmas.List.{length-map, length-append, length-drop, length-take-le, take-append-drop}
 use Rattle.std.proofs.lemmas.List.Elements.{All-weaker}
 use Rattle.nichols_field.specs.Field.{IsElement, times}
 use Rattle.nichols_field.proofs.FieldLaws.{times_one, times_is_element, one_is_element}
 use Rattle.nichols_field.proofs.FieldAlgebra.{one_times}
-use Rattle.nichols_tensor.specs.Combination.{Term, Combination, scaled}
+use Rattle.nichols_tensor.specs.Combination.{Term, Combination, scalar_multiple}
 use Rattle.nichols_tensor.specs.Words.{up_to, IsWordOver}
 use Rattle.nichols_tensor.proofs.Entries.{contains_first, contains_later}
 use Rattle.nichols_tensor.proofs.Pushed.{pushed_length}
 use Rattle.nichols_braid.specs.Braid.{BraidValue, IsBraid, act}
-use Rattle.nichols_braid.specs.Crossing.{crossed}
+use Rattle.nichols_braid.specs.Crossing.{crossed_term}
 use Rattle.nichols_braid.specs.Lift.{IsDescending, bubble, lift}
 use Rattle.nichols_braid.specs.Symmetrizer.{permutations, lifts}
 use Rattle.nichols_braid.specs.Derivation.{scalars_met}
 use Rattle.nichols_braid.specs.Rearrangement.{IsRearrangement}
 use Rattle.nichols_braid.specs.RightProduct.{times_letter}
-use Rattle.nichols_braid.proofs.Lists.{map-map}
+use Rattle.nichols_braid.proofs.Lists.{map-map, map-flat_map, same_flat_map}
 use Rattle.nichols_braid.proofs.Rearranged.{consecutive, up_to_is_consecutive, rearranged_length, rearranged_bounds}
 use Rattle.nichols_braid.proofs.Permutations.{inserted_is_rearrangement, listed_is_rearrangement, insert_between}
 use Rattle.nichols_lift.proofs.Bubble.{bubble_descends}
 use Rattle.nichols_lift.proofs.Reduced.{term, reduced_list, lift_is_closed}
-use Rattle.nichols_lift.proofs.Chain.{carried_to_end, descending_inserted, behind, multiple, crossed_within, crossed-append, crossed_multiple}
+use Rattle.nichols_lift.proofs.Chain.{carried_to_end, descending_inserted, behind, multiple, crossed_within, crossed_term-append, crossed_multiple}
 
 -- ---- one permutation
 
@@ -32,7 +32,7 @@ met_is_element braid is a [] = one_is_element braid.field is.field
 met_is_element braid is a (x ∷ u) = times_is_element braid.field _ _ is.field
 
 -- every descending list leads to the lift
-crossed_is_lift : (braid : BraidValue) → IsBraid braid → (m : ℕ) (places ends w : List ℕ) → IsRearrangement m ends → length w ≡ m → IsWordOver braid.letters w → IsDescending ends places → lift braid ends w ≡ crossed braid places (term w 1)
+crossed_is_lift : (braid : BraidValue) → IsBraid braid → (m : ℕ) (places ends w : List ℕ) → IsRearrangement m ends → length w ≡ m → IsWordOver braid.letters w → IsDescending ends places → lift braid ends w ≡ crossed_term braid places (term w 1)
 crossed_is_lift braid is m places ends w arranged size over h = lift_is_closed braid is m ends w arranged size over ∙ sym (reduced_list braid is m places ends w arranged size over h)
 
 -- the list that takes the greatest end place to the end first
@@ -49,9 +49,9 @@ lift_parts braid is m left right front a u arranged same_left same_right over =
     let count : length (front ++ a ∷ u) ≡ suc m = length-append front (a ∷ u) ∙ (omega arith) in
     let less : All (λ e. e < suc m) ends = All-weaker (λ e. (1 ≤ e) × (e ≤ m)) (λ e. e < suc m) (λ e k. omega arith) ends (rearranged_bounds m ends arranged) in
     crossed_is_lift braid is (suc m) (chain ++ bubble ends) (left ++ suc m ∷ right) (front ++ a ∷ u) whole count over (descending_inserted (suc m) left right (bubble ends) less (bubble_descends ends))
-    ∙ crossed-append braid chain (bubble ends) (term (front ++ a ∷ u) 1)
-    ∙ ap₂ (λ i n. crossed braid (bubble ends) (crossed braid (consecutive (suc i) n) (term (front ++ a ∷ u) 1))) same_left same_right
-    ∙ ap (crossed braid (bubble ends)) (carried_to_end braid is.field front a u 1 (one_is_element braid.field is.field)
+    ∙ crossed_term-append braid chain (bubble ends) (term (front ++ a ∷ u) 1)
+    ∙ ap₂ (λ i n. crossed_term braid (bubble ends) (crossed_term braid (consecutive (suc i) n) (term (front ++ a ∷ u) 1))) same_left same_right
+    ∙ ap (crossed_term braid (bubble ends)) (carried_to_end braid is.field front a u 1 (one_is_element braid.field is.field)
     ∙ ap₂ term (sym (append_assoc front (map (act braid a) u) (a ∷ []))) (one_times braid.field s (met_is_element braid is a u) ∙ sym (times_one braid.field s (met_is_element braid is a u))))
     ∙ crossed_within braid a (bubble ends) ends v (times braid.field s 1) (bubble_descends ends) (length-append front (map (act braid a) u) ∙ ap (λ n. length front + n) (length-map u (act braid a)) ∙ sym (ap₂ (λ i n. i + n) same_left same_right) ∙ sym (length-append left right))
     ∙ ap (behind a) (crossed_multiple braid (bubble ends) v s 1)
@@ -80,22 +80,22 @@ summands braid front (a ∷ u) = record { letter = a; rest = term (front ++ map 
 
 -- the summand with its rest lifted by each permutation
 abbrev pub lifted : BraidValue → Summand → Combination
-lifted braid s = times_letter (scaled braid.field s.rest.coefficient (lifts braid s.rest.word)) s.letter
+lifted braid s = times_letter (scalar_multiple braid.field s.rest.coefficient (lifts braid s.rest.word)) s.letter
 
 abbrev block : BraidValue → ℕ → List ℕ → ℕ → Combination
 block braid m w j = map (λ ends. lift braid (insert ends (j - 1) (suc m)) w) (permutations m)
 
 block_is_lifted : (braid : BraidValue) → IsBraid braid → (m : ℕ) (front : List ℕ) (a : ℕ) (u : List ℕ) → length front + length u ≡ m → IsWordOver braid.letters (front ++ a ∷ u) →
-    block braid m (front ++ a ∷ u) (suc (length front)) ≡ times_letter (scaled braid.field (scalars_met braid a u) (lifts braid (front ++ map (act braid a) u))) a
+    block braid m (front ++ a ∷ u) (suc (length front)) ≡ times_letter (scalar_multiple braid.field (scalars_met braid a u) (lifts braid (front ++ map (act braid a) u))) a
 unfolding lifts
 block_is_lifted braid is m front a u size over =
     ap (λ i. map (λ ends. lift braid (insert ends i (suc m)) (front ++ a ∷ u)) (permutations m)) (let e : suc (length front) - 1 ≡ length front = omega arith in e)
     ∙ each (permutations m) (listed_is_rearrangement m)
-    ∙ ap (λ n. times_letter (scaled braid.field (scalars_met braid a u) (map (λ ends. lift braid ends (front ++ map (act braid a) u)) (permutations n))) a)
+    ∙ ap (λ n. times_letter (scalar_multiple braid.field (scalars_met braid a u) (map (λ ends. lift braid ends (front ++ map (act braid a) u)) (permutations n))) a)
     (sym size ∙ sym (ap (λ n. length front + n) (length-map u (act braid a))) ∙ sym (length-append front (map (act braid a) u)))
   where
     each : (all : List (List ℕ)) → ((ends : List ℕ) → Contains all ends → IsRearrangement m ends) →
-        map (λ ends. lift braid (insert ends (length front) (suc m)) (front ++ a ∷ u)) all ≡ times_letter (scaled braid.field (scalars_met braid a u) (map (λ ends. lift braid ends (front ++ map (act braid a) u)) all)) a
+        map (λ ends. lift braid (insert ends (length front) (suc m)) (front ++ a ∷ u)) all ≡ times_letter (scalar_multiple braid.field (scalars_met braid a u) (map (λ ends. lift braid ends (front ++ map (act braid a) u)) all)) a
     each [] h = refl
     each (ends ∷ all) h = ap₂ (λ t r. t ∷ r) (lift_inserted braid is m ends front a u (h ends (contains_first ends all)) size over) (each all (λ es i. h es (contains_later ends all es i)))
 
@@ -109,21 +109,13 @@ blocks_are_summands braid is m front (a ∷ u) w e size over =
     (ap (λ x. block braid m x (suc (length front))) (sym e) ∙ block_is_lifted braid is m front a u count (subst (IsWordOver braid.letters) (sym e) over))
     (ap (λ n. flat_map (block braid m w) (consecutive (suc n) (length u))) (sym (pushed_length front a)) ∙ blocks_are_summands braid is m next u w (append_assoc front (a ∷ []) u ∙ e) size over)
 
-map-flat_map : {X Y : Type 0} (f : X → Y) (g : ℕ → List X) (js : List ℕ) → map f (flat_map g js) ≡ flat_map (λ j. map f (g j)) js
-map-flat_map f g [] = refl
-map-flat_map f g (j ∷ js) = map-append f (g j) (flat_map g js) ∙ ap (λ r. map f (g j) ++ r) (map-flat_map f g js)
-
-same_flat_map : {Y : Type 0} (f g : ℕ → List Y) (js : List ℕ) → ((j : ℕ) → f j ≡ g j) → flat_map f js ≡ flat_map g js
-same_flat_map f g [] h = refl
-same_flat_map f g (j ∷ js) h = ap₂ (λ a b. a ++ b) (h j) (same_flat_map f g js h)
-
 by_length : (braid : BraidValue) (m : ℕ) (w : List ℕ) → length w ≡ suc m → lifts braid w ≡ flat_map (block braid m w) (up_to (suc m))
 unfolding lifts permutations
 by_length braid m w size =
     ap (λ n. map (λ ends. lift braid ends w) (permutations n)) size
     ∙ map-flat_map (λ ends. lift braid ends w) (λ j. map (λ ends. insert ends (j - 1) (suc m)) (permutations m)) (up_to (suc m))
-    ∙ same_flat_map (λ j. map (λ ends. lift braid ends w) (map (λ ends. insert ends (j - 1) (suc m)) (permutations m))) (block braid m w) (up_to (suc m))
-    (λ j. map-map (λ ends. lift braid ends w) (λ ends. insert ends (j - 1) (suc m)) (permutations m))
+    ∙ same_flat_map (λ j. map (λ ends. lift braid ends w) (map (λ ends. insert ends (j - 1) (suc m)) (permutations m))) (block braid m w)
+    (λ j. map-map (λ ends. lift braid ends w) (λ ends. insert ends (j - 1) (suc m)) (permutations m)) (up_to (suc m))
 
 pub lifts_are_summands : (braid : BraidValue) → IsBraid braid → (m : ℕ) (w : List ℕ) → length w ≡ suc m → IsWordOver braid.letters w → lifts braid w ≡ flat_map (lifted braid) (summands braid [] w)
 lifts_are_summands braid is m w size over =

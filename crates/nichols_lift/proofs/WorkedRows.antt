@@ -5,7 +5,7 @@ use Rattle.nichols_field.specs.Field.{prime_field}
 use Rattle.nichols_field.proofs.OnNumerals.{field_on_numerals}
 use Rattle.nichols_tensor.specs.Combination.{Term}
 use Rattle.nichols_braid.specs.Braid.{BraidValue, entry}
-use Rattle.nichols_braid.specs.Crossing.{crossed}
+use Rattle.nichols_braid.specs.Crossing.{crossed_term}
 use Rattle.nichols_braid.specs.Lift.{IsDescending}
 use Rattle.nichols_lift.specs.ClosedForm.{closed_form}
 
@@ -29,7 +29,7 @@ unfolding field_on_numerals entry closed_form
 closed_312 = refl
 
 -- the other list of crossings for the end places 3, 2, 1
-crossed_212 : crossed three (2 ∷ 1 ∷ 2 ∷ []) (term (1 ∷ 2 ∷ 3 ∷ []) 1) ≡ term (1 ∷ 3 ∷ 1 ∷ []) 100
+crossed_212 : crossed_term three (2 ∷ 1 ∷ 2 ∷ []) (term (1 ∷ 2 ∷ 3 ∷ []) 1) ≡ term (1 ∷ 3 ∷ 1 ∷ []) 100
 unfolding field_on_numerals entry
 crossed_212 = refl
 

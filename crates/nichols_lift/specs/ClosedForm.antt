@@ -11,9 +11,9 @@ abbrev pub Placed : Type 0
 Placed = record { place : ℕ; letter : ℕ }
 
 -- the letter x that ends at e, once those of the earlier letters that end to its right have acted; the nearest is the first of the list
-abbrev pub acted : BraidValue → List Placed → ℕ → ℕ → ℕ
-acted braid [] e x = x
-acted braid (p ∷ earlier) e x = if nat_lt e p.place then acted braid earlier e (act braid p.letter x) else acted braid earlier e x
+abbrev pub acted_letter : BraidValue → List Placed → ℕ → ℕ → ℕ
+acted_letter braid [] e x = x
+acted_letter braid (p ∷ earlier) e x = if nat_lt e p.place then acted_letter braid earlier e (act braid p.letter x) else acted_letter braid earlier e x
 
 -- the product of the scalars that it meets
 abbrev pub acted_scalar : BraidValue → List Placed → ℕ → ℕ → ℕ
@@ -22,9 +22,9 @@ acted_scalar braid (p ∷ earlier) e x =
     if nat_lt e p.place then times braid.field (scalar braid p.letter x) (acted_scalar braid earlier e (act braid p.letter x)) else acted_scalar braid earlier e x
 
 -- the letters of a word as they end, behind these earlier ones
-abbrev pub ended : BraidValue → List Placed → List ℕ → List ℕ → List Placed
-ended braid earlier (e ∷ ends) (x ∷ w) = record { place = e; letter = acted braid earlier e x } ∷ ended braid (record { place = e; letter = x } ∷ earlier) ends w
-ended braid earlier _ _ = []
+abbrev pub letters_at_ends : BraidValue → List Placed → List ℕ → List ℕ → List Placed
+letters_at_ends braid earlier (e ∷ ends) (x ∷ w) = record { place = e; letter = acted_letter braid earlier e x } ∷ letters_at_ends braid (record { place = e; letter = x } ∷ earlier) ends w
+letters_at_ends braid earlier _ _ = []
 
 -- the product of the scalars that they meet
 abbrev pub ended_scalar : BraidValue → List Placed → List ℕ → List ℕ → ℕ
@@ -38,4 +38,4 @@ letter_at (p ∷ ps) e = if nat_eq p.place e then p.letter else letter_at ps e
 
 -- the lift, by its end places, of a word
 unfoldable pub closed_form : BraidValue → List ℕ → List ℕ → Term
-closed_form braid ends w = record { word = map (letter_at (ended braid [] ends w)) (up_to (length ends)); coefficient = ended_scalar braid [] ends w }
+closed_form braid ends w = record { word = map (letter_at (letters_at_ends braid [] ends w)) (up_to (length ends)); coefficient = ended_scalar braid [] ends w }

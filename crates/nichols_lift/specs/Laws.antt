@@ -4,10 +4,10 @@ use Rattle.std.specs.List.{flat_map, Contains}
 use Rattle.nichols_tensor.specs.Combination.{Combination, HasSameValues}
 use Rattle.nichols_tensor.specs.Words.{up_to, IsWordOver, IsOver, HasDegree}
 use Rattle.nichols_braid.specs.Braid.{BraidValue, IsBraid, IsLetter}
-use Rattle.nichols_braid.specs.Crossing.{crossed}
+use Rattle.nichols_braid.specs.Crossing.{crossed_term}
 use Rattle.nichols_braid.specs.Lift.{IsDescending, bubble, lift}
-use Rattle.nichols_braid.specs.Symmetrizer.{symmetrized}
-use Rattle.nichols_braid.specs.Derivation.{derived}
+use Rattle.nichols_braid.specs.Symmetrizer.{symmetrizer_image}
+use Rattle.nichols_braid.specs.Derivation.{skew_derivative}
 use Rattle.nichols_braid.specs.Kernel.{Vanishing, IsInKernel, IsKilled}
 use Rattle.nichols_braid.specs.Least.{is_least, basis, candidates}
 use Rattle.nichols_braid.specs.RightIdealTest.{IsRightIdealTest}
@@ -27,13 +27,13 @@ abbrev pub ReducedListsAgree : Type 0
 ReducedListsAgree =
     (braid : BraidValue) → IsBraid braid → (m : ℕ) (ends w : List ℕ) → IsRearrangement m ends → length w ≡ m → IsWordOver braid.letters w →
     (lift braid ends w ≡ closed_form braid ends w)
-    × ((places : List ℕ) → IsDescending ends places → crossed braid places (record { word = w; coefficient = 1 }) ≡ lift braid ends w)
+    × ((places : List ℕ) → IsDescending ends places → crossed_term braid places (record { word = w; coefficient = 1 }) ≡ lift braid ends w)
 
 -- the quantum symmetrizer of m + 1 places is the sum, over all letters a, of that of m places after the skew derivation by a, with a put behind
 abbrev pub SymmetrizerFactors : Type 0
 SymmetrizerFactors =
     (braid : BraidValue) → IsBraid braid → (m : ℕ) (f : Combination) → HasDegree (suc m) f → IsOver braid.letters f →
-    HasSameValues braid.field (symmetrized braid f) (flat_map (λ a. times_letter (symmetrized braid (derived braid a f)) a) (up_to braid.letters))
+    HasSameValues braid.field (symmetrizer_image braid f) (flat_map (λ a. times_letter (symmetrizer_image braid (skew_derivative braid a f)) a) (up_to braid.letters))
 
 -- a combination of degree m is in the kernel of the symmetrizer exactly where all chains of m derivations kill it
 abbrev pub KernelByDerivations : Type 0

@@ -8,7 +8,7 @@ ghost use Rattle.nichols_tensor.specs.Combination.{AllElements, HasSameValues};
 ghost use Rattle.nichols_tensor.specs.WordOrder.{IsOrdered};
 ghost use Rattle.nichols_tensor.specs.Words.{HasDegree, IsLetterOf, IsOver};
 ghost use Rattle.nichols_braid.specs.RightProduct.{times_letter};
-ghost use Rattle.nichols_braid.specs.Symmetrizer.{symmetrized};
+ghost use Rattle.nichols_braid.specs.Symmetrizer.{symmetrizer_image};
 ghost use Rattle.nichols_lift.specs.declared.TheConstants.{PLACE_LIMIT};
 ghost use Rattle.nichols_lift.specs.Lengths.{AllAtMost};
 
@@ -26,7 +26,7 @@ pub fn symmetrize(alloc: Global, braid: &Braid, comb: &Comb) -> Result<Comb, All
     requires lengths { AllAtMost PLACE_LIMIT comb.now }
     requires letters { IsOver braid.now.letters comb.now }
     requires elements { AllElements braid.now.field comb.now }
-    ensures value { IfOk result (λ r. HasSameValues braid.now.field r (symmetrized braid.now comb.now)) }
+    ensures value { IfOk result (λ r. HasSameValues braid.now.field r (symmetrizer_image braid.now comb.now)) }
     ensures shape { IfOk result IsOrdered }
     ensures elements { IfOk result (AllElements braid.now.field) }
     ensures letters { IfOk result (IsOver braid.now.letters) }
@@ -42,7 +42,7 @@ fn image_below(alloc: Global, braid: &Braid, comb: &Comb, limit: usize) -> Resul
     requires lengths { AllAtMost limit comb.now }
     requires letters { IsOver braid.now.letters comb.now }
     requires elements { AllElements braid.now.field comb.now }
-    ensures value { IfOk result (λ r. HasSameValues braid.now.field r (symmetrized braid.now comb.now)) }
+    ensures value { IfOk result (λ r. HasSameValues braid.now.field r (symmetrizer_image braid.now comb.now)) }
     ensures shape { IfOk result IsOrdered }
     ensures elements { IfOk result (AllElements braid.now.field) }
     ensures lengths { IfOk result (AllAtMost limit) }

@@ -2,7 +2,7 @@
 
 ghost use Rattle.std.specs.Prelude.{◌≡◌, ◌≤◌, ◌↔◌, IsTrue, MatchOption, length};
 ghost use Rattle.nichols_braid.specs.Rearrangement.{IsRearrangement};
-ghost use Rattle.nichols_braid.specs.Lift.{IsDescentAt, exchanged, first_descent};
+ghost use Rattle.nichols_braid.specs.Lift.{IsDescentAt, exchanged_at, first_descent};
 ghost use Rattle.nichols_lift.specs.declared.TheConstants.{PLACE_LIMIT};
 ghost use Rattle.nichols_lift.specs.Perm.{IsPerm};
 
@@ -69,7 +69,7 @@ impl Perm {
     /// Exchanges the end places at a place and the next.
     pub(crate) fn exchange(&mut self, place: usize)
         requires { IsDescentAt place self.old }
-        ensures { self.new ≡ exchanged place self.old }
+        ensures { self.new ≡ exchanged_at place self.old }
     {
         self.ends.swap(place - 1, place);
     }

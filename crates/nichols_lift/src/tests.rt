@@ -1,76 +1,14 @@
-ghost use Rattle.std.specs.Prelude.{IfOk, IfSome};
+ghost use Rattle.std.specs.Prelude.{IfOk};
 ghost use Rattle.nichols_tensor.specs.Combination.{AllElements};
-ghost use Rattle.nichols_tensor.specs.Words.{IsOver, IsWordOver};
+ghost use Rattle.nichols_tensor.specs.Words.{IsOver};
 ghost use Rattle.nichols_lift.specs.Lengths.{AllAtMost};
 
 use super::*;
-use nichols_braid::{Braid, Scalars};
-use nichols_field::Field;
-use nichols_tensor::LETTER_LIMIT;
+use nichols_braid::Braid;
+use nichols_testing::{braid_with_constant, has_terms, three_transpositions, word, word_over};
 use nichols_words::{Comb, Word};
-use std::alloc::{AllocError, Global};
+use std::alloc::Global;
 use std::test::Fail;
-
-/// The word that a text spells, as "3.1.2", or "" for the empty word. What is no letter, or has no room, is left out.
-fn word(text: &str) -> Word {
-    let mut word = Word::empty();
-    for letter in text.split('.') {
-        if let Ok(letter) = letter.parse() {
-            if 1 <= letter && letter <= LETTER_LIMIT {
-                let _put = word.push(letter);
-            }
-        }
-    }
-    word
-}
-
-/// The word that a text spells, where each of its letters is one of the braid.
-fn word_over(braid: &Braid, text: &str) -> Option<Word>
-    ensures { IfSome result (IsWordOver braid.now.letters) }
-{
-    let _field = braid.field();
-    let mut found = Word::empty();
-    for &letter in word(text).letters() {
-        if letter < 1 || letter > braid.letters() || !found.push(letter) {
-            return None;
-        }
-    }
-    Some(found)
-}
-
-fn table(alloc: Global, entries: &[&[i64]]) -> Result<Vec<Vec<i64>>, AllocError> {
-    let mut out = Vec::new(alloc);
-    for row in entries {
-        out.push(row.to_vec(alloc)?)?;
-    }
-    Ok(out)
-}
-
-fn braid(alloc: Global, modulus: i64, rack: &[&[i64]], scalars: &[&[i64]]) -> Result<Braid, Fail> {
-    let field = Field::new(modulus).map_err(|_| "no field")?;
-    let rack = table(alloc, rack)?;
-    let scalars = Scalars::Table(table(alloc, scalars)?);
-    let braid = Braid::new(alloc, field, rack.as_slice(), &scalars).map_err(|_| "no braid")?;
-    Ok(braid)
-}
-
-fn three_transpositions(alloc: Global) -> Result<Braid, Fail> {
-    let minus: &[i64] = &[-1, -1, -1];
-    braid(
-        alloc,
-        101,
-        &[&[1, 3, 2], &[3, 2, 1], &[2, 1, 3]],
-        &[minus, minus, minus],
-    )
-}
-
-/// Whether a combination has these terms, in this order.
-fn has_terms(comb: &Comb, expected: &[(&str, u32)]) -> bool {
-    let terms = comb.terms();
-    terms.len() == expected.len()
-        && terms.iter().zip(expected).all(|(term, (text, coefficient))| term.word == word(text)
-            && term.coefficient == *coefficient)
-}
 
 /// The image of a word of at most 7 letters.
 fn image(alloc: Global, braid: &Braid, text: &str) -> Result<Comb, Fail> {
@@ -140,9 +78,9 @@ fn the_image_of_a_sum(rt: HostRuntime) -> Result<(), Fail> {
 /// 1 times 3 times 7 is zero there.
 #[test]
 fn images_of_powers(rt: HostRuntime) -> Result<(), Fail> {
-    let minus = braid(rt.alloc(), 7, &[&[1]], &[&[-1]])?;
+    let minus = braid_with_constant(rt.alloc(), 7, &[&[1]], -1)?;
     assert!(rt; image(rt.alloc(), &minus, "1.1")?.is_zero());
-    let two = braid(rt.alloc(), 7, &[&[1]], &[&[2]])?;
+    let two = braid_with_constant(rt.alloc(), 7, &[&[1]], 2)?;
     assert!(rt; has_terms(&image(rt.alloc(), &two, "1.1")?, &[("1.1", 3)]));
     assert!(rt; image(rt.alloc(), &two, "1.1.1")?.is_zero());
     Ok(())

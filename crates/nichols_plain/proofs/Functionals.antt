@@ -1,30 +1,30 @@
 -- The entries of images under the quantum symmetrizer tell which combinations are in its kernel.
 use Rattle.std.proofs.Common.{◌≡◌, ℕ, Bool, true, false, cond, List, [], ◌∷◌, length, refl, sym, ◌∙◌, ap, ap₂, subst, nat_eq, ◌⊎◌, inl, inr}
+use Rattle.std.proofs.lemmas.Bool.{eqb-true, eq-eqb}
 use Rattle.std.specs.List.{AllByRecursion, Contains}
 use Rattle.std.specs.Cmp.Lexicographic.{same_text}
-use Rattle.std.proofs.lemmas.Bool.Decides.{Decides-eqb}
 use Rattle.nichols_field.specs.Field.{FieldValue, IsField, IsElement, plus, times}
 use Rattle.nichols_field.proofs.FieldLaws.{times_one, times_zero}
 use Rattle.nichols_tensor.specs.Combination.{Combination, HasSameValues, IsZero, AllElements, value_at, same_letters, words_of, single}
 use Rattle.nichols_tensor.specs.Words.{IsWordOver, IsOver, HasDegree}
-use Rattle.nichols_tensor.proofs.Values.{weight, weight_is_element, weightless, same_itself, weight-extended}
-use Rattle.nichols_tensor.proofs.Linear.{same_weights, extended-single}
-use Rattle.nichols_tensor.proofs.Building.{elements-extended}
+use Rattle.nichols_tensor.proofs.Values.{weight, weight_is_element, weightless, same_itself, weight-linear_map}
+use Rattle.nichols_tensor.proofs.Linear.{same_weights, linear_map-single}
+use Rattle.nichols_tensor.proofs.Building.{elements-linear_map}
 use Rattle.nichols_tensor.proofs.Over.{all_at, all_among, all_of_words}
 use Rattle.nichols_tensor.proofs.Ordered.{is_in_or_not, zero_at_others}
 use Rattle.nichols_tensor.proofs.Tests.{same_answer, all_of_entries}
 use Rattle.nichols_braid.specs.Braid.{BraidValue, IsBraid}
-use Rattle.nichols_braid.specs.Symmetrizer.{lifts, symmetrized}
+use Rattle.nichols_braid.specs.Symmetrizer.{lifts, symmetrizer_image}
 use Rattle.nichols_braid.specs.Kernel.{is_in_kernel}
 use Rattle.nichols_braid.proofs.Maps.{same_weight_on, everywhere}
 use Rattle.nichols_braid.proofs.Killed.{is_in_kernel_sound, is_in_kernel_complete}
 use Rattle.nichols_rows.proofs.Rows.{AreFunctionals}
 use Rattle.nichols_echelon.specs.Cells.{entry}
 use Rattle.nichols_braid.proofs.KeptProducts.{cross_over}
-use Rattle.nichols_lift.proofs.Step.{cross_length}
 use Rattle.nichols_lift.proofs.Parts.{symmetrized_words}
 use Rattle.nichols_plain.specs.Columns.{number_of, row_of, image_entry}
 use Rattle.nichols_plain.proofs.Numbers.{same_number}
+use Rattle.nichols_braid.proofs.WholeKernel.{cross_length}
 
 -- 1 at the words with this number
 abbrev pub at_column : ℕ → ℕ → List ℕ → ℕ
@@ -43,40 +43,34 @@ entry_is_weight k is n c (t ∷ f) e = ap₂ (plus k) (chosen_one k is (nat_eq (
 pub entry_of_same : (k : FieldValue) → IsField k → (n c : ℕ) (f g : Combination) → AllElements k f → AllElements k g → HasSameValues k f g → entry k (row_of n f) c ≡ entry k (row_of n g) c
 entry_of_same k is n c f g e h same = entry_is_weight k is n c f e ∙ same_weights k is (at_column n c) f g same ∙ sym (entry_is_weight k is n c g h)
 
-pub image_elements : (braid : BraidValue) → IsField braid.field → (f : Combination) → AllElements braid.field (symmetrized braid f)
-image_elements braid is f = elements-extended braid.field is (lifts braid) f
+pub image_elements : (braid : BraidValue) → IsField braid.field → (f : Combination) → AllElements braid.field (symmetrizer_image braid f)
+image_elements braid is f = elements-linear_map braid.field is (lifts braid) f
 
 image_entry_is : (braid : BraidValue) → IsField braid.field → (c : ℕ) (w : List ℕ) → image_entry braid c w ≡ weight braid.field (at_column braid.letters c) (lifts braid w)
 unfolding image_entry
 image_entry_is braid is c w =
-    entry_is_weight braid.field is braid.letters c (symmetrized braid (single w)) (image_elements braid is (single w))
-    ∙ same_weights braid.field is (at_column braid.letters c) (symmetrized braid (single w)) (lifts braid w) (extended-single braid.field is (lifts braid) w)
+    entry_is_weight braid.field is braid.letters c (symmetrizer_image braid (single w)) (image_elements braid is (single w))
+    ∙ same_weights braid.field is (at_column braid.letters c) (symmetrizer_image braid (single w)) (lifts braid w) (linear_map-single braid.field is (lifts braid) w)
 
-weight_of_entries : (braid : BraidValue) → IsField braid.field → (c : ℕ) (f : Combination) → weight braid.field (image_entry braid c) f ≡ weight braid.field (at_column braid.letters c) (symmetrized braid f)
+weight_of_entries : (braid : BraidValue) → IsField braid.field → (c : ℕ) (f : Combination) → weight braid.field (image_entry braid c) f ≡ weight braid.field (at_column braid.letters c) (symmetrizer_image braid f)
 weight_of_entries braid is c f =
     let k : FieldValue = braid.field in
     same_weight_on k (image_entry braid c) (λ w. weight k (at_column braid.letters c) (lifts braid w)) f
     (everywhere (λ t. image_entry braid c t.word ≡ weight k (at_column braid.letters c) (lifts braid t.word)) f (λ t. image_entry_is braid is c t.word))
-    ∙ sym (weight-extended k is (at_column braid.letters c) (lifts braid) f)
+    ∙ sym (weight-linear_map k is (at_column braid.letters c) (lifts braid) f)
 
 -- ---- the value at a word is the entry at its column
 
 abbrev IsWordOf : ℕ → ℕ → List ℕ → Type 0
 IsWordOf n m w = (length w ≡ m) × IsWordOver n w
 
-equal_test : (a b : ℕ) → nat_eq a b ≡ true → a ≡ b
-equal_test a b h = (Decides-eqb a b).0 h
-
-test_equal : (a b : ℕ) → a ≡ b → nat_eq a b ≡ true
-test_equal a b h = (Decides-eqb a b).1 h
-
 value_is_entry : (k : FieldValue) → IsField k → (n m : ℕ) (f : Combination) (v : List ℕ) → AllElements k f → AllByRecursion (λ t. IsWordOf n m t.word) f → IsWordOf n m v → value_at k f v ≡ weight k (at_column n (number_of n v)) f
 unfolding weight
 value_is_entry k is n m [] v e h here = refl
 value_is_entry k is n m (t ∷ f) v e h here =
     let tests : same_letters t.word v ≡ nat_eq (number_of n t.word) (number_of n v) =
-    same_answer (same_letters t.word v) (nat_eq (number_of n t.word) (number_of n v)) (λ s. test_equal (number_of n t.word) (number_of n v) (ap (number_of n) (same_text t.word v (sym s))))
-    (λ s. ap (same_letters t.word) (sym (same_number n t.word v (h.0.0 ∙ sym here.0) h.0.1 here.1 (equal_test (number_of n t.word) (number_of n v) s))) ∙ same_itself t.word) in
+    same_answer (same_letters t.word v) (nat_eq (number_of n t.word) (number_of n v)) (λ s. eq-eqb (number_of n t.word) (number_of n v) (ap (number_of n) (same_text t.word v (sym s))))
+    (λ s. ap (same_letters t.word) (sym (same_number n t.word v (h.0.0 ∙ sym here.0) h.0.1 here.1 (eqb-true (number_of n t.word) (number_of n v) s))) ∙ same_itself t.word) in
     ap₂ (plus k) (ap (λ b. cond b t.coefficient 0) tests ∙ chosen_one k is (nat_eq (number_of n t.word) (number_of n v)) t.coefficient e.0) (value_is_entry k is n m f v e.1 h.1 here)
 
 both : (n m : ℕ) (f : Combination) → HasDegree m f → IsOver n f → AllByRecursion (λ t. IsWordOf n m t.word) f
@@ -96,10 +90,10 @@ pub image_entries_tell : (braid : BraidValue) → IsBraid braid → (m : ℕ) (w
     AreFunctionals braid.field (is_in_kernel braid m) ws (image_entry braid)
 image_entries_tell braid is m ws degree over = record {
   elements = λ c w i. subst (IsElement k) (sym (image_entry_is braid is.field c w)) (weight_is_element k is.field (at_column braid.letters c) (lifts braid w));
-  sound = λ f among e h c. weight_of_entries braid is.field c f ∙ weightless k is.field (at_column braid.letters c) (symmetrized braid f) (is_in_kernel_sound braid is.field m f h);
+  sound = λ f among e h c. weight_of_entries braid is.field c f ∙ weightless k is.field (at_column braid.letters c) (symmetrizer_image braid f) (is_in_kernel_sound braid is.field m f h);
   complete = λ f among e h.
       is_in_kernel_complete braid m f
-      (zero_by_entries k is.field braid.letters m (symmetrized braid f) (image_elements braid is.field f)
+      (zero_by_entries k is.field braid.letters m (symmetrizer_image braid f) (image_elements braid is.field f)
       (symmetrized_words (λ w. length w ≡ m) braid (λ i w p. cross_length braid i w ∙ p) f (all_among (λ w. length w ≡ m) f ws among (each (λ w. length w ≡ m) ws degree)))
       (symmetrized_words (IsWordOver braid.letters) braid (λ i w p. cross_over braid is.rack i w p) f (all_among (IsWordOver braid.letters) f ws among (each (IsWordOver braid.letters) ws over)))
       (λ c. sym (weight_of_entries braid is.field c f) ∙ h c));

@@ -1,6 +1,7 @@
 -- What the loops over words, rows and candidates come to.
-use Rattle.std.proofs.Common.{◌≡◌, ℕ, zero, suc, ◌+◌, ◌*◌, ◌^◌, ◌<◌, ◌≤◌, Bool, true, false, cond, List, [], ◌∷◌, length, map, take, refl, sym, ◌∙◌, ap, ap₂, subst, arith, add-one}
-use Rattle.std.specs.List.{AllByRecursion, flat_map, filter}
+use Rattle.std.proofs.Common.{◌≡◌, ℕ, zero, suc, ◌+◌, ◌*◌, ◌^◌, ◌<◌, ◌≤◌, List, [], ◌∷◌, length, map, take, refl, sym, ◌∙◌, ap, ap₂, subst, arith, add-one}
+use Rattle.std.proofs.lemmas.List.Sums.{length-filter, count_by-le-length}
+use Rattle.std.specs.List.{AllByRecursion, flat_map}
 use Rattle.std.proofs.lemmas.List.{take_all, length-append}
 use Rattle.std.proofs.Math.Nat.{pow-zero, pow-suc, pow-le-pow_right}
 use Rattle.nichols_tensor.specs.declared.TheConstants.{WORD_LIMIT}
@@ -15,7 +16,7 @@ use Rattle.nichols_tensor.proofs.Pushed.{with_letters_length}
 use Rattle.nichols_braid.specs.Braid.{BraidValue, IsBraid}
 use Rattle.nichols_braid.specs.Kernel.{is_in_kernel}
 use Rattle.nichols_braid.specs.Least.{basis, candidates, is_least}
-use Rattle.nichols_braid.specs.Symmetrizer.{symmetrized}
+use Rattle.nichols_braid.specs.Symmetrizer.{symmetrizer_image}
 use Rattle.nichols_braid.proofs.Candidates.{candidates_first, candidates_next, from_candidates, candidates_rise}
 use Rattle.nichols_braid.proofs.Reduction.{from_basis}
 use Rattle.nichols_echelon.specs.Cells.{Cell, entry}
@@ -36,12 +37,12 @@ row_is n letters cells items image i same end is = is ∙ ap (row_of n) (take_al
 pub row_elements : (k : FieldValue) (n : ℕ) (row : List Cell) (image : Combination) → row ≡ row_of n image → AllElements k image → AllCellsElements k row
 row_elements k n row image is h = subst (AllCellsElements k) (sym is) (row_of_elements k n image h)
 
-pub row_entries : (braid : BraidValue) → IsBraid braid → (w : List ℕ) (one image : Combination) (row : List Cell) → one ≡ single w → AllElements braid.field image → HasSameValues braid.field image (symmetrized braid one) → row ≡ row_of braid.letters image →
+pub row_entries : (braid : BraidValue) → IsBraid braid → (w : List ℕ) (one image : Combination) (row : List Cell) → one ≡ single w → AllElements braid.field image → HasSameValues braid.field image (symmetrizer_image braid one) → row ≡ row_of braid.letters image →
     (c : ℕ) → entry braid.field row c ≡ image_entry braid c w
 unfolding image_entry
 row_entries braid is w one image row single_is elements same row_is c =
     ap (λ r. entry braid.field r c) row_is
-    ∙ entry_of_same braid.field is.field braid.letters c image (symmetrized braid (single w)) elements (image_elements braid is.field (single w)) (subst (λ f. HasSameValues braid.field image (symmetrized braid f)) single_is same)
+    ∙ entry_of_same braid.field is.field braid.letters c image (symmetrizer_image braid (single w)) elements (image_elements braid is.field (single w)) (subst (λ f. HasSameValues braid.field image (symmetrizer_image braid f)) single_is same)
 
 -- ---- candidates
 
@@ -70,17 +71,9 @@ unfolding words
 words_length n zero = sym (pow-zero n)
 words_length n (suc m) = prefixed_length (words n m) (up_to n) ∙ ap₂ (λ a b. a * b) (up_to_length n) (words_length n m) ∙ (let c : n * n ^ m ≡ n ^ m * n = omega arith in c) ∙ sym (pow-suc n m)
 
-filter_shorter : (t : List ℕ → Bool) (ws : List (List ℕ)) → length (filter t ws) ≤ length ws
-filter_shorter t [] = omega arith
-filter_shorter t (w ∷ ws) = at (t w) (filter_shorter t ws)
-  where
-    at : (b : Bool) → length (filter t ws) ≤ length ws → length (cond b (w ∷ filter t ws) (filter t ws)) ≤ length (w ∷ ws)
-    at true h = omega arith
-    at false h = omega arith
-
 basis_few : (braid : BraidValue) (m : ℕ) → length (basis is_in_kernel braid m) ≤ braid.letters ^ m
 unfolding basis
-basis_few braid m = subst (λ l. length (basis is_in_kernel braid m) ≤ l) (words_length braid.letters m) (filter_shorter (is_least is_in_kernel braid) (words braid.letters m))
+basis_few braid m = subst (λ l. length (basis is_in_kernel braid m) ≤ l) (words_length braid.letters m) (subst (λ l. l ≤ length (words braid.letters m)) (sym (length-filter (is_least is_in_kernel braid) (words braid.letters m))) (count_by-le-length (is_least is_in_kernel braid) (words braid.letters m)))
 
 candidates_few : (braid : BraidValue) (m : ℕ) → length (candidates is_in_kernel braid m) ≤ braid.letters ^ m
 candidates_few braid zero = subst (λ l. length (candidates is_in_kernel braid 0) ≤ l) (sym (pow-zero braid.letters)) (subst (λ l. l ≤ 1) (sym (ap length (candidates_first is_in_kernel braid))) (omega arith))

@@ -3,7 +3,7 @@ use Rattle.std.specs.Prelude.{ℕ, ◌+◌, ◌-◌, ◌*◌, ◌^◌, ◌<◌, 
 use Rattle.nichols_tensor.specs.Combination.{Combination, single}
 use Rattle.nichols_tensor.specs.Words.{IsWordOver}
 use Rattle.nichols_braid.specs.Braid.{BraidValue}
-use Rattle.nichols_braid.specs.Symmetrizer.{symmetrized}
+use Rattle.nichols_braid.specs.Symmetrizer.{symmetrizer_image}
 use Rattle.nichols_echelon.specs.Cells.{Cell, entry}
 use Rattle.nichols_lift.specs.declared.TheConstants.{PLACE_LIMIT}
 
@@ -22,7 +22,7 @@ row_of n f = map (λ t. record { column = number_of n t.word; coefficient = t.co
 
 -- the entry, at a column, of the image of a word under the quantum symmetrizer
 unfoldable pub image_entry : BraidValue → ℕ → List ℕ → ℕ
-image_entry braid column w = entry braid.field (row_of braid.letters (symmetrized braid (single w))) column
+image_entry braid column w = entry braid.field (row_of braid.letters (symmetrizer_image braid (single w))) column
 
 -- a word over the braid's letters whose image is computed, and of whose length there are few enough words for columns
 pub record HasColumns (braid : BraidValue) (w : List ℕ) : Type 0 where

@@ -1,65 +1,7 @@
 use super::*;
-use nichols_braid::{Braid, Scalars};
-use nichols_field::Field;
-use nichols_tensor::LETTER_LIMIT;
-use nichols_words::{Comb, Relation, Word};
-use std::alloc::{AllocError, Global};
+use nichols_testing::{braid_with_constant, has_terms, has_words, three_transpositions, word};
+use nichols_words::Relation;
 use std::test::Fail;
-
-/// The word that a text spells, as "3.1.2", or "" for the empty word. What is no letter, or has no room, is left out.
-fn word(text: &str) -> Word {
-    let mut word = Word::empty();
-    for letter in text.split('.') {
-        if let Ok(letter) = letter.parse() {
-            if 1 <= letter && letter <= LETTER_LIMIT {
-                let _put = word.push(letter);
-            }
-        }
-    }
-    word
-}
-
-fn table(alloc: Global, entries: &[&[i64]]) -> Result<Vec<Vec<i64>>, AllocError> {
-    let mut out = Vec::new(alloc);
-    for row in entries {
-        out.push(row.to_vec(alloc)?)?;
-    }
-    Ok(out)
-}
-
-fn braid(alloc: Global, modulus: i64, rack: &[&[i64]], scalars: &[&[i64]]) -> Result<Braid, Fail> {
-    let field = Field::new(modulus).map_err(|_| "no field")?;
-    let rack = table(alloc, rack)?;
-    let scalars = Scalars::Table(table(alloc, scalars)?);
-    let braid = Braid::new(alloc, field, rack.as_slice(), &scalars).map_err(|_| "no braid")?;
-    Ok(braid)
-}
-
-fn three_transpositions(alloc: Global) -> Result<Braid, Fail> {
-    let minus: &[i64] = &[-1, -1, -1];
-    braid(
-        alloc,
-        101,
-        &[&[1, 3, 2], &[3, 2, 1], &[2, 1, 3]],
-        &[minus, minus, minus],
-    )
-}
-
-fn has_words(words: &[Word], expected: &[&str]) -> bool {
-    words.len() == expected.len()
-        && words
-            .iter()
-            .zip(expected)
-            .all(|(found, text)| *found == word(text))
-}
-
-/// Whether a combination has these terms, in this order.
-fn has_terms(comb: &Comb, expected: &[(&str, u32)]) -> bool {
-    let terms = comb.terms();
-    terms.len() == expected.len()
-        && terms.iter().zip(expected).all(|(term, (text, coefficient))| term.word == word(text)
-            && term.coefficient == *coefficient)
-}
 
 /// A candidate with the terms of its form.
 type Expected = (&'static str, &'static [(&'static str, u32)]);
@@ -102,8 +44,8 @@ fn degrees_over_the_three_transpositions(rt: HostRuntime) -> Result<(), Fail> {
 /// Over one letter with scalar -1 the square is zero, and with scalar 2 over 7 elements the cube.
 #[test]
 fn degrees_over_one_letter(rt: HostRuntime) -> Result<(), Fail> {
-    let minus = braid(rt.alloc(), 7, &[&[1]], &[&[-1]])?;
-    let two = braid(rt.alloc(), 7, &[&[1]], &[&[2]])?;
+    let minus = braid_with_constant(rt.alloc(), 7, &[&[1]], -1)?;
+    let two = braid_with_constant(rt.alloc(), 7, &[&[1]], 2)?;
     if minus.letters() != 1 || two.letters() != 1 {
         return Err("not one letter".into());
     }
@@ -120,7 +62,7 @@ fn degrees_over_one_letter(rt: HostRuntime) -> Result<(), Fail> {
 /// Over the trivial rack of two letters with scalar 1 and two elements: squares are zero, and 2.1 is 1.2.
 #[test]
 fn degrees_over_two_elements(rt: HostRuntime) -> Result<(), Fail> {
-    let two = braid(rt.alloc(), 2, &[&[1, 2], &[1, 2]], &[&[1, 1], &[1, 1]])?;
+    let two = braid_with_constant(rt.alloc(), 2, &[&[1, 2], &[1, 2]], 1)?;
     if two.letters() != 2 {
         return Err("not two letters".into());
     }

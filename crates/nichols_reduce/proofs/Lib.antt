@@ -1,8 +1,8 @@
-pub mod Growing
-pub mod Longest
-pub mod RowForms
-pub mod WordForms
-pub mod PartForms
-pub mod Wholes
+mod GrowingSums
+mod Longest
+mod RowForms
+mod WordForms
+mod PartForms
+mod LastDegree
 pub mod ReduceLaws
-pub mod WholeLevels
+mod WholeLevels

@@ -2,15 +2,16 @@
 use Rattle.std.proofs.Common.{◌≡◌, ◌≢◌, ◌↔◌, ℕ, suc, ◌<◌, ◌≤◌, Bool, true, false, not, nat_eq, nat_lt, List, [], ◌∷◌, ◌++◌, length, refl, sym, ◌∙◌, ap, ap₂, subst, arith, flat_map, inl, inr}
 use Rattle.std.specs.Prelude.{◌&&◌, if◌then◌else◌}
 use Rattle.std.specs.List.{AllByRecursion, Contains}
-use Rattle.std.proofs.lemmas.Bool.{cases_lt}
-use Rattle.std.proofs.lemmas.Bool.Decides.{Decides-ltb, eqb_tells}
+use Rattle.std.proofs.lemmas.Bool.{and_parts, cases_lt, false_from_ne_true, not_from_false}
+use Rattle.std.proofs.lemmas.Bool.Decides.{Decides-eqb, Decides-ltb, eqb_tells}
+use Rattle.std.proofs.lemmas.List.{nil_from_length}
 use Rattle.nichols_field.specs.Field.{FieldValue, IsField, plus, times}
-use Rattle.nichols_tensor.specs.Combination.{Combination, value_at, minus, scaled}
+use Rattle.nichols_tensor.specs.Combination.{Combination, value_at, minus, scalar_multiple}
 use Rattle.nichols_tensor.specs.Parts.{part_of_degree, longest, degrees_of}
 use Rattle.nichols_tensor.specs.Words.{IsOver, IsWordOver}
-use Rattle.nichols_tensor.proofs.Over.{all-append, all-scaled, all-weaker}
-use Rattle.nichols_tensor.proofs.Parts.{part-append, part-scaled, part_of_none, degree-part, over-part}
-use Rattle.nichols_tensor.proofs.Values.{value_at-append, value_at-scaled}
+use Rattle.nichols_tensor.proofs.Over.{all-append, all-scalar_multiple, all-weaker}
+use Rattle.nichols_tensor.proofs.Parts.{part-append, part-scalar_multiple, part_of_none, degree-part, over-part}
+use Rattle.nichols_tensor.proofs.Values.{value_at-append, value_at-scalar_multiple}
 use Rattle.nichols_braid.specs.Braid.{BraidValue, IsBraid}
 use Rattle.nichols_braid.specs.End.{is_empty_degree}
 use Rattle.nichols_braid.specs.Kernel.{Vanishing, IsInKernel, is_in_kernel, is_killed}
@@ -35,7 +36,7 @@ use Rattle.nichols_reduce.specs.Laws.{AnswersAreKnown, LongWordsAreZero, FormsHa
 use Rattle.nichols_reduce.specs.Normal.{is_beyond, normal_of}
 use Rattle.nichols_reduce.specs.declared.answer.Normal.{Normal}
 use Rattle.nichols_reduce.specs.declared.answer.Normal.TheVariants.{Form, Beyond}
-use Rattle.nichols_reduce.proofs.Wholes.{form_in_empty_degree, nothing_from}
+use Rattle.nichols_reduce.proofs.LastDegree.{form_in_empty_degree, nothing_from}
 
 -- ---- one reading
 
@@ -127,14 +128,14 @@ forms_are_linear vanishes braid is reading = record { sums = sums; multiples = m
         ∙ sym (value_at-append k is.field (whole f) (whole g) w)
 
     multiples : (c : ℕ) (f : Combination) → IsOver braid.letters f → (w : List ℕ) →
-        value_at braid.field (normal_form_by_parts vanishes braid (scaled braid.field c f)) w ≡ value_at braid.field (scaled braid.field c (normal_form_by_parts vanishes braid f)) w
+        value_at braid.field (normal_form_by_parts vanishes braid (scalar_multiple braid.field c f)) w ≡ value_at braid.field (scalar_multiple braid.field c (normal_form_by_parts vanishes braid f)) w
     multiples c f of w =
-        form_value vanishes braid is.field l (scaled k c f) (all-scaled (λ v. IsWordOver braid.letters v) k c f of) w
-        ∙ ap (λ h. value_at k (nf (length w) h) w) (part-scaled k (λ v. nat_eq (length v) (length w)) c f)
+        form_value vanishes braid is.field l (scalar_multiple k c f) (all-scalar_multiple (λ v. IsWordOver braid.letters v) k c f of) w
+        ∙ ap (λ h. value_at k (nf (length w) h) w) (part-scalar_multiple k (λ v. nat_eq (length v) (length w)) c f)
         ∙ (linear (length w)).multiples c (part_of_degree (length w) f) (degree-part (length w) f) (own (length w) f of) w
-        ∙ value_at-scaled k is.field c (nf (length w) (part_of_degree (length w) f)) w
+        ∙ value_at-scalar_multiple k is.field c (nf (length w) (part_of_degree (length w) f)) w
         ∙ ap (times k c) (sym (form_value vanishes braid is.field l f of w))
-        ∙ sym (value_at-scaled k is.field c (whole f) w)
+        ∙ sym (value_at-scalar_multiple k is.field c (whole f) w)
 
 -- ---- its own form
 
@@ -167,12 +168,7 @@ some_left : (ws : List (List ℕ)) → not (nat_eq (length ws) 0) ≡ true → w
 some_left ws h none = let c : false ≡ true = sym (ap (λ vs. not (nat_eq (length vs) 0)) none) ∙ h in cc
 
 some_counted : (ws : List (List ℕ)) → ws ≢ [] → not (nat_eq (length ws) 0) ≡ true
-some_counted [] other = absurd (other refl)
-some_counted (w ∷ ws) other = elim (eqb_tells (length (w ∷ ws)) 0) [ inl same ↦ absurd (let e : length (w ∷ ws) ≡ 0 = same.1 in omega arith) | inr apart ↦ ap not apart.0 ]
-
-both : (s t : Bool) → (s && t) ≡ true → (s ≡ true) × (t ≡ true)
-both true t h = (refl, h)
-both false t h = absurd (let c : false ≡ true = h in cc)
+some_counted ws other = not_from_false (nat_eq (length ws) 0) (false_from_ne_true (nat_eq (length ws) 0) (λ e. other (nil_from_length ws ((Decides-eqb (length ws) 0).0 e))))
 
 pub answers_are_known : AnswersAreKnown
 unfolding normal_of is_beyond
@@ -189,7 +185,7 @@ answers_are_known braid last f = record { beyond = λ m. (to m, from m); form = 
       where
         at : (b : Bool) → test ≡ b → pick b ≡ Beyond m → (m ≡ last) × (basis is_killed braid last ≢ []) × (last < longest f)
         at true e k =
-            let (less, some) = both (nat_lt last (longest f)) (not (is_empty_degree is_killed braid last)) e in
+            let (less, some) = and_parts (nat_lt last (longest f)) (not (is_empty_degree is_killed braid last)) e in
             let same : Beyond last ≡ Beyond m = k in
             (cc, some_left (basis is_killed braid last) some, (Decides-ltb last (longest f)).0 less)
         at false e k = absurd (let c : Form (normal_form_by_parts is_killed braid f) ≡ Beyond m = k in cc)

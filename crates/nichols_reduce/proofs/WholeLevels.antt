@@ -3,7 +3,6 @@ use Rattle.std.proofs.Common.{◌≡◌, ◌⊎◌, ℕ, suc, ◌-◌, ◌<◌, 
 use Rattle.std.specs.List.{Contains}
 use Rattle.std.proofs.lemmas.Bool.{cases_lt}
 use Rattle.std.proofs.lemmas.List.{get_or_default, take_all}
-use Rattle.std.proofs.lemmas.List.Sums.{length-filter, count_by-le-length}
 use Rattle.nichols_tensor.proofs.Entries.{in_map}
 use Rattle.nichols_tensor.proofs.Over.{all_at}
 use Rattle.nichols_tensor.proofs.Tests.{all_of_entries}
@@ -11,10 +10,8 @@ use Rattle.nichols_tensor.specs.Positions.{word_at}
 use Rattle.nichols_braid.specs.declared.TheConstants.{MOST_ROWS}
 use Rattle.nichols_braid.specs.Braid.{BraidValue}
 use Rattle.nichols_braid.specs.Kernel.{is_killed}
-use Rattle.nichols_braid.specs.Least.{candidates}
-use Rattle.nichols_braid.specs.Product.{has_product, product_before}
+use Rattle.nichols_braid.specs.Product.{product_before}
 use Rattle.nichols_braid.specs.Products.{products, rows}
-use Rattle.nichols_braid.proofs.Candidates.{candidates_first}
 use Rattle.nichols_value.specs.declared.key.BlockKey.{BlockKey}
 use Rattle.nichols_value.specs.declared.shared.LowerValue.{LowerValue}
 use Rattle.nichols_value.specs.declared.shared.Shared.{Shared}
@@ -29,20 +26,11 @@ use Rattle.nichols_value.proofs.Wholes.{right_rule, rule_value, whole_below_firs
 use Rattle.nichols_block.specs.Levels.{rules_of}
 use Rattle.nichols_block.specs.Lower.{AreLowerRules, AreLowerValues}
 use Rattle.nichols_reduce.specs.Whole.{AreWhole, IsWholeRule}
-
--- degree 0
-few_first : (braid : BraidValue) (g : List ℕ) → rows is_killed braid 0 g ≤ 1
-unfolding rows
-few_first braid g =
-    let ws : List (List ℕ) = candidates is_killed braid 0 in
-    let e = length-filter (has_product braid g) ws in
-    let most = count_by-le-length (has_product braid g) ws in
-    let one : length ws ≡ 1 = ap length (candidates_first is_killed braid) in
-    omega (arith, e, most, one)
+use Rattle.nichols_braid.proofs.FirstDegree.{first_rows}
 
 pub first_is_whole : (braid : BraidValue) (last : ℕ) → last ≡ 0 → AreWhole braid last
 first_is_whole braid last e m g below i =
-    let few : rows is_killed braid 0 g ≤ 1 = few_first braid g in
+    let few : rows is_killed braid 0 g ≤ 1 = first_rows is_killed braid g in
     let first : 0 ≡ m = omega (arith, e, below) in
     subst (λ d. is_whole braid MOST_ROWS d g ≡ true) first (whole_from braid MOST_ROWS 0 g (omega (arith, few)) (whole_below_first braid MOST_ROWS g))
 
@@ -60,9 +48,9 @@ rules_are_right braid last key lower whole degree h = record {
 }
 
 -- a right value that is a rule
-pub whole_rule : (braid : BraidValue) (m : ℕ) (g : List ℕ) (value shared : BlockValue) (r : PlainRule) → IsRight braid MOST_ROWS m g value → (shared ≡ value) ⊎ (shared ≡ Starved) → shared ≡ Rule r → IsWholeRule braid m g shared
-whole_rule braid m g value shared r right (inr starved) is = absurd (let c : Starved ≡ Rule r = sym starved ∙ is in cc)
-whole_rule braid m g value shared r right (inl same) is =
+pub whole_rule : (braid : BraidValue) (m : ℕ) (g : List ℕ) (value copy : BlockValue) (r : PlainRule) → IsRight braid MOST_ROWS m g value → (copy ≡ value) ⊎ (copy ≡ Starved) → copy ≡ Rule r → IsWholeRule braid m g copy
+whole_rule braid m g value copy r right (inr starved) is = absurd (let c : Starved ≡ Rule r = sym starved ∙ is in cc)
+whole_rule braid m g value copy r right (inl same) is =
     let (whole, own) = right_rule braid MOST_ROWS m g r (subst (IsRight braid MOST_ROWS m g) (sym same ∙ is) right) in
     record { rule = is ∙ ap Rule own; whole = whole }
 

@@ -28,10 +28,10 @@ use Rattle.nichols_braid.proofs.SideForms.{right_form_is_normal}
 use Rattle.nichols_value.specs.Block.{block_basis, lower_basis}
 use Rattle.nichols_value.specs.Rule.{IsRuleOf, PlainRule, below_in}
 use Rattle.nichols_value.proofs.Blocks.{lower_basis_is, product_before_of}
-use Rattle.nichols_value.proofs.Readings.{basis_is, below_is, key_is}
+use Rattle.nichols_value.proofs.RuleEntries.{basis_is, below_is, key_is}
 use Rattle.nichols_reduce.specs.Sums.{combination_of, HasGrownBy}
-use Rattle.nichols_reduce.specs.Forms.{IsFormOf, followed, form_of}
-use Rattle.nichols_reduce.proofs.Growing.{zeros_are_zero}
+use Rattle.nichols_reduce.specs.Forms.{IsFormOf, followed_by_letter, form_of}
+use Rattle.nichols_reduce.proofs.GrowingSums.{zeros_are_zero}
 
 -- ---- the empty word
 
@@ -61,7 +61,7 @@ grown_from_zero k is ws zeros new n f e h v =
     ∙ zero_plus k (value_at k f v) (value_is_element k is f v)
 
 form_with_letter : (braid : BraidValue) → IsBraid braid → (u : List ℕ) (letter : ℕ) → IsWordOver braid.letters u → IsLetter braid letter → (form zeros new : List ℕ) (n : ℕ) → IsFormOf braid u form → zeros ≡ replicate n 0 →
-    HasGrownBy braid.field (block_basis braid (suc (length u)) (product_of braid (u ++ letter ∷ []))) zeros (followed braid (suc (length u)) (combination_of braid.field (block_basis braid (length u) (product_of braid u)) form) letter) new → IsFormOf braid (u ++ letter ∷ []) new
+    HasGrownBy braid.field (block_basis braid (suc (length u)) (product_of braid (u ++ letter ∷ []))) zeros (followed_by_letter braid (suc (length u)) (combination_of braid.field (block_basis braid (length u) (product_of braid u)) form) letter) new → IsFormOf braid (u ++ letter ∷ []) new
 form_with_letter braid is u letter over lb form zeros new n formed e grown =
     let k : FieldValue = braid.field in
     let m : ℕ = length u in
@@ -72,7 +72,7 @@ form_with_letter braid is u letter over lb form zeros new n formed e grown =
       width = grown.width ∙ ap length (sym words);
       values = λ v.
           ap (λ us. value_at k (combination_of k us new) v) words
-          ∙ grown_from_zero k is.field ws zeros new n (followed braid (suc m) (combination_of k (block_basis braid m (product_of braid u)) form) letter) e grown v
+          ∙ grown_from_zero k is.field ws zeros new n (followed_by_letter braid (suc m) (combination_of k (block_basis braid m (product_of braid u)) form) letter) e grown v
           ∙ same_images k is.field (λ x. normal_form is_killed braid (suc m) (single (x ++ letter ∷ []))) (combination_of k (block_basis braid m (product_of braid u)) form) (form_of braid u) formed.values v
           ∙ sym (value_at-in_order k is.field (right_form is_killed braid m u letter) v)
           ∙ ap (λ f. value_at k f v) (sym (right_form_is_normal is_killed braid is.field (killed_is_ideal_from_right braid is) m u letter refl over lb))
@@ -110,14 +110,14 @@ rule_of_prefix braid is w i letter d g r over less letter_is d_is g_is e =
     }
 
 pub next_form : (braid : BraidValue) → IsBraid braid → (w : List ℕ) (i letter : ℕ) (r : PlainRule) → IsWordOver braid.letters w → IsRuleOfPrefix braid w i letter r → (form zeros new : List ℕ) (n : ℕ) → IsFormOf braid (take i w) form → zeros ≡ replicate n 0 →
-    HasGrownBy braid.field r.basis zeros (followed braid r.key.degree (combination_of braid.field (below_in r letter) form) letter) new → IsFormOf braid (take (i + 1) w) new
+    HasGrownBy braid.field r.basis zeros (followed_by_letter braid r.key.degree (combination_of braid.field (below_in r letter) form) letter) new → IsFormOf braid (take (i + 1) w) new
 next_form braid is w i letter r over p form zeros new n formed e grown =
     let u : List ℕ = take i w in
     subst (λ x. IsFormOf braid x new) (sym p.longer)
     (form_with_letter braid is u letter (word_over-take braid.letters i w over) p.over form zeros new n formed e
-    (subst (λ ws. HasGrownBy braid.field ws zeros (followed braid (suc (length u)) (combination_of braid.field (block_basis braid (length u) (product_of braid u)) form) letter) new) p.basis
-    (subst (λ d. HasGrownBy braid.field r.basis zeros (followed braid d (combination_of braid.field (block_basis braid (length u) (product_of braid u)) form) letter) new) p.degree
-    (subst (λ us. HasGrownBy braid.field r.basis zeros (followed braid r.key.degree (combination_of braid.field us form) letter) new) p.below grown))))
+    (subst (λ ws. HasGrownBy braid.field ws zeros (followed_by_letter braid (suc (length u)) (combination_of braid.field (block_basis braid (length u) (product_of braid u)) form) letter) new) p.basis
+    (subst (λ d. HasGrownBy braid.field r.basis zeros (followed_by_letter braid d (combination_of braid.field (block_basis braid (length u) (product_of braid u)) form) letter) new) p.degree
+    (subst (λ us. HasGrownBy braid.field r.basis zeros (followed_by_letter braid r.key.degree (combination_of braid.field us form) letter) new) p.below grown))))
 
 -- the product of the first letters of a word is one of its degree
 pub prefix_product : (braid : BraidValue) (w : List ℕ) (i : ℕ) (g : List ℕ) → IsWordOver braid.letters w → i ≤ length w → g ≡ product_of braid (take i w) → Contains (products braid i) g

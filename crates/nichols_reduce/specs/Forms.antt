@@ -1,6 +1,6 @@
 -- Normal forms of words, as sums over the least words of their blocks.
 use Rattle.std.specs.Prelude.{◌≡◌, ℕ, List, [], ◌∷◌, ◌++◌, length}
-use Rattle.nichols_tensor.specs.Combination.{Combination, HasSameValues, single, extended}
+use Rattle.nichols_tensor.specs.Combination.{Combination, HasSameValues, single, linear_map}
 use Rattle.nichols_braid.specs.Braid.{BraidValue}
 use Rattle.nichols_braid.specs.Kernel.{is_killed}
 use Rattle.nichols_braid.specs.Least.{normal_form}
@@ -13,8 +13,8 @@ abbrev pub form_of : BraidValue → List ℕ → Combination
 form_of braid w = normal_form is_killed braid (length w) (single w)
 
 -- f x_b, with the normal form of each of its words, which have degree m
-abbrev pub followed : BraidValue → ℕ → Combination → ℕ → Combination
-followed braid m f b = extended braid.field (λ u. normal_form is_killed braid m (single (u ++ b ∷ []))) f
+abbrev pub followed_by_letter : BraidValue → ℕ → Combination → ℕ → Combination
+followed_by_letter braid m f b = linear_map braid.field (λ u. normal_form is_killed braid m (single (u ++ b ∷ []))) f
 
 -- the sums over the least words of a word's block are those of its normal form
 pub record IsFormOf (braid : BraidValue) (w : List ℕ) (sums : List ℕ) : Type 0 where

@@ -1,7 +1,7 @@
 -- What the laws of this crate say.
 use Rattle.std.specs.Prelude.{◌≡◌, ◌≢◌, ◌↔◌, ℕ, ◌<◌, ◌≤◌, [], ◌++◌, length}
 use Rattle.std.specs.List.{AllByRecursion}
-use Rattle.nichols_tensor.specs.Combination.{Combination, HasSameValues, scaled, minus}
+use Rattle.nichols_tensor.specs.Combination.{Combination, HasSameValues, scalar_multiple, minus}
 use Rattle.nichols_tensor.specs.Parts.{longest}
 use Rattle.nichols_tensor.specs.Words.{IsOver}
 use Rattle.nichols_braid.specs.Braid.{BraidValue, IsBraid}
@@ -43,7 +43,7 @@ pub record IsLinearForm (vanishes : Vanishing) (braid : BraidValue) : Type 0 whe
   pub sums : (f g : Combination) → IsOver braid.letters f → IsOver braid.letters g →
       HasSameValues braid.field (normal_form_by_parts vanishes braid (f ++ g)) (normal_form_by_parts vanishes braid f ++ normal_form_by_parts vanishes braid g)
   pub multiples : (c : ℕ) (f : Combination) → IsOver braid.letters f →
-      HasSameValues braid.field (normal_form_by_parts vanishes braid (scaled braid.field c f)) (scaled braid.field c (normal_form_by_parts vanishes braid f))
+      HasSameValues braid.field (normal_form_by_parts vanishes braid (scalar_multiple braid.field c f)) (scalar_multiple braid.field c (normal_form_by_parts vanishes braid f))
 
 -- the normal form is linear
 abbrev pub FormsAreLinear : Type 0

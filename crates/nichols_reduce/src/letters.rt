@@ -3,14 +3,14 @@
 ghost use Rattle.std.specs.Prelude.{◌≡◌, ◌≤◌, ◌<◌, ◌+◌, [], IfOk, OnOk, length, replicate, slice_index_or, take};
 ghost use Rattle.std.specs.List.{Contains};
 ghost use Rattle.nichols_field.specs.Field.{IsElement};
-ghost use Rattle.nichols_tensor.specs.Combination.{AllElements, scaled};
+ghost use Rattle.nichols_tensor.specs.Combination.{AllElements, scalar_multiple};
 ghost use Rattle.nichols_tensor.specs.Words.{IsWordOver};
 ghost use Rattle.nichols_braid.specs.Braid.{IsLetter};
 ghost use Rattle.nichols_braid.specs.Product.{product_of};
 ghost use Rattle.nichols_braid.specs.Products.{products};
 ghost use Rattle.nichols_value.specs.Rule.{IsRuleOf, below_in, right_in};
 ghost use Rattle.nichols_reduce.specs.Sums.{HasGrownBy, combination_of};
-ghost use Rattle.nichols_reduce.specs.Forms.{IsFormOf, followed};
+ghost use Rattle.nichols_reduce.specs.Forms.{IsFormOf, followed_by_letter};
 
 use nichols_block::Levels;
 use nichols_braid::{Braid, Product};
@@ -42,7 +42,7 @@ fn add_row(field: Field, by: u32, rule: &BlockRule, b: u8, k: usize, sums: &mut 
     requires place { k < length (right_in rule.now b) }
     requires elements { AllElements field (slice_index_or (right_in rule.now b) k []) }
     requires width { length sums.old ≡ length rule.now.basis }
-    ensures { HasGrownBy field rule.now.basis sums.old (scaled field by (slice_index_or (right_in rule.now b) k [])) sums.new }
+    ensures { HasGrownBy field rule.now.basis sums.old (scalar_multiple field by (slice_index_or (right_in rule.now b) k [])) sums.new }
 {
     let _modulus = field.modulus();
     for cell in rule.right_row(b, k) {
@@ -58,7 +58,7 @@ fn add_followed(braid: &Braid, rule: &BlockRule, form: &[u64], b: u8, sums: &mut
     requires letter { IsLetter braid.now b }
     requires form { length form.now ≡ length (below_in rule.now b) }
     requires width { length sums.old ≡ length rule.now.basis }
-    ensures { HasGrownBy braid.now.field rule.now.basis sums.old (followed braid.now rule.now.key.degree (combination_of braid.now.field (below_in rule.now b) form.now) b) sums.new }
+    ensures { HasGrownBy braid.now.field rule.now.basis sums.old (followed_by_letter braid.now rule.now.key.degree (combination_of braid.now.field (below_in rule.now b) form.now) b) sums.new }
 {
     let field = braid.field();
     for (k, count) in form.iter().enumerate() {

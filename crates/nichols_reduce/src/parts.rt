@@ -2,7 +2,7 @@
 
 ghost use Rattle.std.specs.Prelude.{◌≡◌, ◌≤◌, ◌++◌, false, IfOk, OnOk, length};
 ghost use Rattle.nichols_field.specs.Field.{IsElement};
-ghost use Rattle.nichols_tensor.specs.Combination.{AllElements, HasSameValues, scaled};
+ghost use Rattle.nichols_tensor.specs.Combination.{AllElements, HasSameValues, scalar_multiple};
 ghost use Rattle.nichols_tensor.specs.Parts.{longest};
 ghost use Rattle.nichols_tensor.specs.Words.{IsOver, IsWordOver};
 ghost use Rattle.nichols_braid.specs.Kernel.{is_killed};
@@ -50,7 +50,7 @@ fn put_term(
     requires letters { IsWordOver levels.now.braid.letters term.now.word }
     requires element { IsElement levels.now.braid.field term.now.coefficient }
     requires elements { AllElements levels.now.braid.field sum.old.items }
-    ensures values { OnOk result (HasSameValues levels.now.braid.field sum.new.items (sum.old.items ++ scaled levels.now.braid.field term.now.coefficient (form_of levels.now.braid term.now.word))) }
+    ensures values { OnOk result (HasSameValues levels.now.braid.field sum.new.items (sum.old.items ++ scalar_multiple levels.now.braid.field term.now.coefficient (form_of levels.now.braid term.now.word))) }
     ensures elements { OnOk result (AllElements levels.now.braid.field sum.new.items) }
 {
     let field = levels.braid().field();

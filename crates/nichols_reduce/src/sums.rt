@@ -2,7 +2,7 @@
 
 ghost use Rattle.std.specs.Prelude.{◌≡◌, ◌++◌, OnOk, length};
 ghost use Rattle.nichols_field.specs.Field.{IsElement};
-ghost use Rattle.nichols_tensor.specs.Combination.{scaled, without_zeros};
+ghost use Rattle.nichols_tensor.specs.Combination.{scalar_multiple, without_zeros};
 ghost use Rattle.nichols_reduce.specs.Sums.{combination_of};
 
 use nichols_field::Field;
@@ -19,7 +19,7 @@ pub(crate) fn put_terms(
 ) -> Result<(), AllocError>
     requires factor { IsElement field by }
     requires width { length sums.now ≡ length basis.now }
-    ensures { OnOk result (terms.new.items ≡ terms.old.items ++ without_zeros (scaled field by (combination_of field basis.now sums.now))) }
+    ensures { OnOk result (terms.new.items ≡ terms.old.items ++ without_zeros (scalar_multiple field by (combination_of field basis.now sums.now))) }
 {
     let _modulus = field.modulus();
     for (k, word) in basis.iter().enumerate() {

@@ -1,7 +1,7 @@
-ghost use Rattle.std.specs.Prelude.{◌≡◌, ◌<◌, IfOk, IfSome, MatchOption, map, suc, ⊤};
+ghost use Rattle.std.specs.Prelude.{◌≡◌, ◌<◌, IfOk, MatchOption, map, suc, ⊤};
 ghost use Rattle.std.specs.List.{Contains};
 ghost use Rattle.nichols_tensor.specs.Combination.{AllElements};
-ghost use Rattle.nichols_tensor.specs.Words.{IsOver, IsWordOver};
+ghost use Rattle.nichols_tensor.specs.Words.{IsOver};
 ghost use Rattle.nichols_braid.specs.declared.TheConstants.{MOST_DEGREES};
 ghost use Rattle.nichols_braid.specs.Products.{products};
 ghost use Rattle.nichols_value.specs.declared.value.BlockValue.TheVariants.{Rule};
@@ -11,10 +11,10 @@ ghost use Rattle.nichols_reduce.specs.Whole.{AreWhole, IsWholeRule};
 
 use super::*;
 use nichols_block::{BlockKey, BlockValue, Levels, Shared, lower_values, make};
-use nichols_braid::{Braid, MOST_DEGREES, MOST_ROWS, Product, Products, Scalars};
-use nichols_field::Field;
-use nichols_tensor::LETTER_LIMIT;
-use nichols_words::{Comb, Word};
+use nichols_braid::{Braid, MOST_DEGREES, MOST_ROWS, Product, Products};
+use nichols_tensor::WORD_LIMIT;
+use nichols_testing::{braid_with_constant, has_terms, word, word_over};
+use nichols_words::Comb;
 use std::alloc::{AllocError, Global};
 use std::test::Fail;
 
@@ -81,14 +81,7 @@ fn longer(alloc: Global, levels: Levels) -> Result<Levels, Fail>
 
 /// The algebra of a rack over F_101 with the scalar -1, up to a degree, or to where it closes.
 fn levels_up_to(alloc: Global, rack: &[&[i64]], degree: u32) -> Result<Levels, Fail> {
-    let field = Field::new(101).map_err(|_| "no field")?;
-    let mut rows = Vec::new(alloc);
-    for row in rack {
-        rows.push(row.to_vec(alloc)?)?;
-    }
-    let braid = Braid::new(alloc, field, rows.as_slice(), &Scalars::Constant(-1)).map_err(
-        |_| "refused",
-    )?;
+    let braid = braid_with_constant(alloc, 101, rack, -1)?;
     let mut levels = Levels::start(alloc, braid)?;
     for _step in 0..degree {
         if levels.last() < MOST_DEGREES && !levels.closed() {
@@ -96,33 +89,6 @@ fn levels_up_to(alloc: Global, rack: &[&[i64]], degree: u32) -> Result<Levels, F
         }
     }
     Ok(levels)
-}
-
-/// The word that a text spells, as "3.1.2", or "" for the empty word. What is no letter, or has no room, is left out.
-fn word(text: &str) -> Word {
-    let mut word = Word::empty();
-    for letter in text.split('.') {
-        if let Ok(letter) = letter.parse() {
-            if 1 <= letter && letter <= LETTER_LIMIT {
-                let _put = word.push(letter);
-            }
-        }
-    }
-    word
-}
-
-/// The word that a text spells, where each of its letters is one of the braid.
-fn word_over(braid: &Braid, text: &str) -> Option<Word>
-    ensures { IfSome result (IsWordOver braid.now.letters) }
-{
-    let _field = braid.field();
-    let mut found = Word::empty();
-    for &letter in word(text).letters() {
-        if letter < 1 || letter > braid.letters() || !found.push(letter) {
-            return None;
-        }
-    }
-    Some(found)
 }
 
 type Listed = &'static [(&'static str, i64)];
@@ -165,13 +131,6 @@ fn comb_over(alloc: Global, braid: &Braid, listed: &[(&str, i64)]) -> Result<Com
 enum Want {
     Terms(&'static [(&'static str, u32)]),
     Last(u32),
-}
-
-fn has_terms(comb: &Comb, expected: &[(&str, u32)]) -> bool {
-    let terms = comb.terms();
-    terms.len() == expected.len()
-        && terms.iter().zip(expected).all(|(term, (text, coefficient))| term.word == word(text)
-            && term.coefficient == *coefficient)
 }
 
 fn is_wanted(found: &Normal, want: Want) -> bool {
@@ -240,7 +199,7 @@ fn three_transpositions_closed(rt: HostRuntime) -> Result<(), Fail> {
     let alloc = rt.alloc();
     let levels = levels_up_to(alloc, &THREE, 12)?;
     assert!(rt; levels.closed());
-    assert_eq!(rt; word(SIXTY).len(), 60);
+    assert_eq!(rt; word(SIXTY).len(), WORD_LIMIT);
     let rows: [(Listed, Want); 7] = [
         (&[("1.2.1", 1), ("2.1.2", -1)], Want::Terms(&[])),
         (&[("3.1", 1)], Want::Terms(&[("1.2", 100), ("2.3", 100)])),

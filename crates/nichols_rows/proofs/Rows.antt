@@ -6,13 +6,13 @@ use Rattle.std.specs.declared.cmp.Ordering.TheVariants.{Less}
 use Rattle.nichols_field.specs.Field.{FieldValue, IsField, IsElement, plus, times, negative}
 use Rattle.nichols_field.proofs.FieldLaws.{plus_zero, one_is_element}
 use Rattle.nichols_field.proofs.FieldAlgebra.{one_times, difference_of_same, same_from_difference}
-use Rattle.nichols_tensor.specs.Combination.{Combination, AllElements, AllNonzero, AllAmong, words_of, single, scaled, minus}
+use Rattle.nichols_tensor.specs.Combination.{Combination, AllElements, AllNonzero, AllAmong, words_of, single, scalar_multiple, minus}
 use Rattle.nichols_tensor.specs.Positions.{word_at}
 use Rattle.nichols_tensor.specs.Words.{words_before}
 use Rattle.nichols_tensor.specs.WordOrder.{word_cmp, IsBelowFirst, IsRising, IsOrdered}
-use Rattle.nichols_tensor.proofs.Values.{weight, weight_is_element, weight-append, weight-scaled}
-use Rattle.nichols_tensor.proofs.Enumeration.{among-append, among-scaled}
-use Rattle.nichols_tensor.proofs.Building.{elements-append, elements-scaled}
+use Rattle.nichols_tensor.proofs.Values.{weight, weight_is_element, weight-append, weight-scalar_multiple}
+use Rattle.nichols_tensor.proofs.Enumeration.{among-append, among-scalar_multiple}
+use Rattle.nichols_tensor.proofs.Building.{elements-append, elements-scalar_multiple}
 use Rattle.nichols_tensor.proofs.Rising.{word_at_is_in, position_of, words_at_rise, position_below}
 use Rattle.nichols_tensor.proofs.AllWords.{in_words_before}
 use Rattle.nichols_braid.specs.Braid.{BraidValue}
@@ -42,15 +42,15 @@ weight_single k is φ w e = ap (λ n. plus k n 0) (one_times k (φ w) e) ∙ plu
 
 weight_difference : (k : FieldValue) → IsField k → (φ : List ℕ → ℕ) (w : List ℕ) (f : Combination) → IsElement k (φ w) → weight k φ (minus k (single w) f) ≡ plus k (φ w) (times k (negative k 1) (weight k φ f))
 weight_difference k is φ w f e =
-    weight-append k is φ (single w) (scaled k (negative k 1) f) ∙ ap (λ n. plus k n (weight k φ (scaled k (negative k 1) f))) (weight_single k is φ w e)
-    ∙ ap (plus k (φ w)) (weight-scaled k is φ (negative k 1) f)
+    weight-append k is φ (single w) (scalar_multiple k (negative k 1) f) ∙ ap (λ n. plus k n (weight k φ (scalar_multiple k (negative k 1) f))) (weight_single k is φ w e)
+    ∙ ap (plus k (φ w)) (weight-scalar_multiple k is φ (negative k 1) f)
 
 difference_among : (k : FieldValue) (w : List ℕ) (f : Combination) (ws : List (List ℕ)) → Contains ws w → AllAmong f ws → AllAmong (minus k (single w) f) ws
 unfolding AllAmong
-difference_among k w f ws i a = among-append (single w) (scaled k (negative k 1) f) ws (i, tt) (among-scaled k (negative k 1) f ws a)
+difference_among k w f ws i a = among-append (single w) (scalar_multiple k (negative k 1) f) ws (i, tt) (among-scalar_multiple k (negative k 1) f ws a)
 
 difference_elements : (k : FieldValue) → IsField k → (w : List ℕ) (f : Combination) → AllElements k (minus k (single w) f)
-difference_elements k is w f = elements-append k (single w) (scaled k (negative k 1) f) (one_is_element k is, tt) (elements-scaled k is (negative k 1) f)
+difference_elements k is w f = elements-append k (single w) (scalar_multiple k (negative k 1) f) (one_is_element k is, tt) (elements-scalar_multiple k is (negative k 1) f)
 
 -- a word whose numbers are those of a combination is congruent to it
 pub congruent_by_rows : (k : FieldValue) → IsField k → (test : Combination → Bool) (ws : List (List ℕ)) (φ : ℕ → List ℕ → ℕ) → AreFunctionals k test ws φ →
@@ -104,7 +104,7 @@ combination_is_ordered ws rising cells shape below = record {
 }
 
 -- a combination of entries before the one at position i is made of cells with positions below i
-cells_of : (k : FieldValue) (ws : List (List ℕ)) → IsRising ws → (i : ℕ) → i < length ws → (f : Combination) → AllElements k f → AllByRecursion (λ t. Contains ws t.word × (word_cmp t.word (word_at ws i) ≡ Less)) f →
+pub cells_of : (k : FieldValue) (ws : List (List ℕ)) → IsRising ws → (i : ℕ) → i < length ws → (f : Combination) → AllElements k f → AllByRecursion (λ t. Contains ws t.word × (word_cmp t.word (word_at ws i) ≡ Less)) f →
     (cells : List Cell) × AllBelow i cells × AllCellsElements k cells × (combination_at ws cells ≡ f)
 cells_of k ws r i within [] e h = ([], tt, tt, refl)
 cells_of k ws r i within (t ∷ f) e h =

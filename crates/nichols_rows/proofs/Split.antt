@@ -13,7 +13,7 @@ use Rattle.nichols_braid.specs.LinearTest.{IsLinearTest}
 use Rattle.nichols_braid.proofs.Candidates.{least_of, relation_at, relations_of, relations_are}
 use Rattle.nichols_braid.proofs.Spanning.{IsSpanning, basis_among}
 use Rattle.nichols_echelon.specs.Cells.{Cell, entry, AllBelow}
-use Rattle.nichols_echelon.specs.Combination.{row_at, combined, IsDependent}
+use Rattle.nichols_echelon.specs.Combination.{row_at, combined_entry, IsDependent}
 use Rattle.nichols_echelon.specs.Split.{place_at, AllIndependent, IsPlace, IsSplit}
 use Rattle.nichols_echelon.specs.declared.rows.Place.{Place}
 use Rattle.nichols_echelon.specs.declared.rows.Place.TheVariants.{Independent, Depends}
@@ -33,8 +33,8 @@ IsSaid vanishes braid m all w (Depends cells) = (is_least vanishes braid w ≡ f
 abbrev pub HaveEntries : FieldValue → List (List Cell) → List (List ℕ) → (ℕ → List ℕ → ℕ) → Type 0
 HaveEntries k rows ws φ = (i column : ℕ) → i < length ws → entry k (row_at rows i) column ≡ φ column (word_at ws i)
 
-combined_as_weight : (k : FieldValue) (rows : List (List Cell)) (ws : List (List ℕ)) (φ : ℕ → List ℕ → ℕ) → HaveEntries k rows ws φ → (cells : List Cell) → AllBelow (length ws) cells → (column : ℕ) → combined k rows cells column ≡ weight k (φ column) (combination_at ws cells)
-unfolding combined weight
+pub combined_as_weight : (k : FieldValue) (rows : List (List Cell)) (ws : List (List ℕ)) (φ : ℕ → List ℕ → ℕ) → HaveEntries k rows ws φ → (cells : List Cell) → AllBelow (length ws) cells → (column : ℕ) → combined_entry k rows cells column ≡ weight k (φ column) (combination_at ws cells)
+unfolding combined_entry weight
 combined_as_weight k rows ws φ entries [] below column = refl
 combined_as_weight k rows ws φ entries (c ∷ cells) below column = ap₂ (λ n r. plus k (times k c.coefficient n) r) (entries c.column column below.0) (combined_as_weight k rows ws φ entries cells below.1 column)
 
@@ -81,7 +81,7 @@ AllSaid R [] places = Unit {0}
 AllSaid R (w ∷ ws) [] = ⊥
 AllSaid R (w ∷ ws) (p ∷ places) = R w p × AllSaid R ws places
 
-all_said : (R : List ℕ → Place → Type 0) (ws : List (List ℕ)) (places : List Place) → length places ≡ length ws → ((i : ℕ) → i < length ws → R (word_at ws i) (place_at places i)) → AllSaid R ws places
+pub all_said : (R : List ℕ → Place → Type 0) (ws : List (List ℕ)) (places : List Place) → length places ≡ length ws → ((i : ℕ) → i < length ws → R (word_at ws i) (place_at places i)) → AllSaid R ws places
 all_said R [] places e h = tt
 all_said R (w ∷ ws) [] e h = absurd (omega arith)
 all_said R (w ∷ ws) (p ∷ places) e h = (h 0 (omega arith), all_said R ws places (omega arith) (λ i less. h (suc i) (omega arith)))

@@ -3,8 +3,10 @@
 //! `AllocError` says that there was no memory.
 #![tactic(auto)]
 
+mod combination;
 mod places;
 
+pub use combination::combination_of;
 pub use places::{independent_words, relations};
 
 #[cfg(test)]

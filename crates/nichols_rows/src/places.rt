@@ -3,29 +3,12 @@
 ghost use Rattle.std.specs.Prelude.{◌≡◌, ◌++◌, ◌∷◌, IfOk, OnOk, [], length};
 ghost use Rattle.std.specs.List.{AllByRecursion};
 ghost use Rattle.nichols_tensor.specs.WordOrder.{IsRising};
-ghost use Rattle.nichols_rows.specs.CombinationAt.{combination_at};
-ghost use Rattle.nichols_echelon.specs.Cells.{AllBelow, IsRow};
 ghost use Rattle.nichols_rows.specs.Places.{IsInside, dependent_in, independent_in};
 
-use nichols_echelon::{Cell, Place};
-use nichols_words::{Comb, Relation, Term, Word};
+use crate::combination::combination_of;
+use nichols_echelon::Place;
+use nichols_words::{Relation, Word};
 use std::alloc::{AllocError, Global};
-
-/// The combination of the words at the positions of a row.
-fn form_of(alloc: Global, words: &[Word], cells: &[Cell]) -> Result<Comb, AllocError>
-    requires rising { IsRising words.now }
-    requires shape { IsRow cells.now }
-    requires inside { AllBelow (length words.now) cells.now }
-    ensures { IfOk result (λ r. r ≡ combination_at words.now cells.now) }
-{
-    let mut terms = Vec::new(alloc);
-    for cell in cells {
-        let word = words[cell.column as usize];
-        let coefficient = cell.coefficient;
-        terms.push(Term { word, coefficient })?;
-    }
-    Ok(Comb::from_terms(terms))
-}
 
 /// Puts a word whose row depends on rows before it, with its form, behind other relations.
 fn push_relation(
@@ -40,7 +23,7 @@ fn push_relation(
     ensures { OnOk result (out.new.items ≡ out.old.items ++ dependent_in words.now (candidate ∷ []) (place.now ∷ [])) }
 {
     if let Place::Depends(row) = place {
-        let form = form_of(alloc, words, row.cells())?;
+        let form = combination_of(alloc, words, row.cells())?;
         out.push(Relation { candidate, form })?;
     }
     Ok(())

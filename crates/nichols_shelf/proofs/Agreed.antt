@@ -1,49 +1,31 @@
 -- What a pass keeps agrees with what it knows, after each call.
-use Rattle.std.proofs.Common.{◌≡◌, ◌≢◌, ℕ, zero, suc, ◌+◌, ◌<◌, ◌≤◌, Bool, true, false, true≢false, cond, eqb, ltb, lt-ltb, ◌&&◌, ◌||◌, List, [], ◌∷◌, length, get_or, set, replicate, refl, sym, ap, ◌∙◌, eq-eqb, ne_eqb, lt_of_not-le, arith, Option, length-set, get_or-set_other, get_or-set_same}
+use Rattle.std.proofs.Common.{◌≡◌, ◌≢◌, ℕ, ◌+◌, ◌<◌, ◌≤◌, Bool, true, false, true≢false, cond, eqb, ltb, lt-ltb, ◌&&◌, ◌||◌, List, [], ◌∷◌, length, get_or, set, replicate, refl, sym, ap, ◌∙◌, eq-eqb, ne_eqb, lt_of_not-le, arith, Option, length-set, subst}
 use Rattle.std.specs.Prelude.{is_some, None}
-use Rattle.std.proofs.lemmas.Bool.{ltb-true, false_from_ne_true}
+use Rattle.std.proofs.lemmas.Bool.{ltb-true, false_from_ne_true, or_right}
+use Rattle.std.proofs.Math.Bool.{and-true, and-false}
 use mathlib.Core.Logic.{dite}
 use native.Mathlib.Decide.{ℕ_discrete, dec_le}
-use lib.ListN.{length-replicate, get_or-replicate}
+use lib.ListN.{length-replicate, get_or-replicate, get_or-eq_default}
+use Rattle.nichols_core.proofs.MarksWritten.{mark_put}
 use Rattle.nichols_value.specs.declared.shared.Shared.{Shared}
 use Rattle.nichols_value.specs.declared.value.BlockValue.{BlockValue}
 use Rattle.nichols_shelf.specs.Plan.{PlanValue}
-use Rattle.nichols_shelf.specs.Lists.{is_in, without, noted}
+use Rattle.nichols_shelf.specs.Lists.{is_in, without, noted_value}
 use Rattle.nichols_shelf.specs.Places.{blocks, edges, edge}
-use Rattle.nichols_shelf.specs.Views.{first_view, one_more, newcomer, merged, says_published, take_view, release_view, ask_view, publish_view, draw_view, lay_view, pick_view}
+use Rattle.nichols_shelf.specs.Views.{first_view, one_more, newcomer, joined_view, says_published, take_view, release_view, ask_view, publish_view, draw_view, lay_view, pick_view}
 use Rattle.nichols_shelf.specs.Passes.{HasPickedNone}
 use Rattle.nichols_shelf.specs.Out.{are_picked}
 use Rattle.nichols_shelf.specs.Stored.{IsStored}
 use Rattle.nichols_shelf.specs.declared.view.View.{View}
 use Rattle.nichols_shelf.proofs.Listed.{is_in-without, is_in-append, is_in-below, others_stay, noted_same, noted_other, noted_more}
-use Rattle.nichols_shelf.proofs.StageTests.{or_more}
 use Rattle.nichols_shelf.proofs.Picks.{still_picked}
-
--- a mark that was written
-pub marks_put : (xs : List Bool) (b : ℕ) (t : Bool) (c : ℕ) → b < length xs → get_or (set xs b t) c false ≡ cond (eqb c b) t (get_or xs c false)
-marks_put xs b t c inside = dite (ℕ_discrete c b)
-    (λ e. ap (λ i. get_or (set xs b t) i false) e ∙ (get_or-set_same xs b t false inside ∙ ap (λ s. cond s t (get_or xs c false)) (sym (eq-eqb c b e))))
-    (λ ne. get_or-set_other xs b c t false ne ∙ ap (λ s. cond s t (get_or xs c false)) (sym (ne_eqb c b ne)))
 
 -- all marks of a new list
 marks_of : (n : ℕ) (t : Bool) (c : ℕ) → get_or (replicate n t) c false ≡ (t && ltb c n)
 marks_of n t c = elim (dec_le n c) [
-  | yes h ↦ past n t c h ∙ sym (ap (λ s. t && s) (false_from_ne_true (ltb c n) (λ e. let q = ltb-true c n e in omega arith)) ∙ and_false t)
-  | no h ↦ get_or-replicate n c t false (lt_of_not-le h) ∙ (and_true t ∙ ap (λ s. t && s) (sym (lt-ltb c n (lt_of_not-le h))))
+  | yes h ↦ get_or-eq_default (replicate n t) false (subst (λ m. m ≤ c) (sym (length-replicate n t)) h) ∙ sym (ap (λ s. t && s) (false_from_ne_true (ltb c n) (λ e. let q = ltb-true c n e in omega arith)) ∙ and-false t)
+  | no h ↦ get_or-replicate n c t false (lt_of_not-le h) ∙ (sym (and-true t) ∙ ap (λ s. t && s) (sym (lt-ltb c n (lt_of_not-le h))))
 ]
-  where
-    past : (n : ℕ) (t : Bool) (c : ℕ) → n ≤ c → get_or (replicate n t) c false ≡ false
-    past zero t c h = refl
-    past (suc n) t zero h = absurd (omega arith)
-    past (suc n) t (suc c) h = past n t c (omega arith)
-
-    and_false : (t : Bool) → (t && false) ≡ false
-    and_false true = refl
-    and_false false = refl
-
-    and_true : (t : Bool) → t ≡ (t && true)
-    and_true true = refl
-    and_true false = refl
 
 pub stored_start : (g : PlanValue) → IsStored 0 1 (replicate (blocks g) true) (first_view g) []
 stored_start g = record {
@@ -63,12 +45,12 @@ stored_start g = record {
 module _ (w n : ℕ) (marks : List Bool) (v : View) (out : List (ℕ × Option Shared)) (st : IsStored w n marks v out) where
   -- a view in which all that matters stays
   same_slots : (v' : View) → v'.plan ≡ v.plan → v'.picked ≡ v.picked → ((c : ℕ) → is_in c v.held ≡ true → is_in c v'.held ≡ true) → are_picked v' out ≡ true
-  same_slots v' plan picks held = still_picked v v' plan (λ k inside noted_is h. (ap (λ xs. is_some (noted k xs)) picks ∙ noted_is, held (edge v.plan k).upper h)) out st.slots
+  same_slots v' plan picks held = still_picked v v' plan (λ k inside noted_is h. (ap (λ xs. is_some (noted_value k xs)) picks ∙ noted_is, held (edge v.plan k).upper h)) out st.slots
 
   pub stored_take : (b found : ℕ) → b < blocks v.plan → IsStored w n (set marks b false) (take_view b found v) out
   stored_take b found inside = record {
     room = length-set marks b false ∙ st.room;
-    owed = λ c. marks_put marks b false c (let r = st.room in omega arith) ∙ (ap (λ t. cond (eqb c b) false t) (st.owed c) ∙ (through (eqb c b) (is_in c v.owed) (ltb c (blocks v.plan)) ∙ ap (λ t. t && ltb c (blocks v.plan)) (sym (is_in-without c b v.owed))));
+    owed = λ c. mark_put marks b false (let r = st.room in omega arith) c ∙ (ap (λ t. cond (eqb c b) false t) (st.owed c) ∙ (through (eqb c b) (is_in c v.owed) (ltb c (blocks v.plan)) ∙ ap (λ t. t && ltb c (blocks v.plan)) (sym (is_in-without c b v.owed))));
     worker = st.worker;
     passes = st.passes;
     live = st.live;
@@ -81,13 +63,13 @@ module _ (w n : ℕ) (marks : List Bool) (v : View) (out : List (ℕ × Option S
       through false x y = refl
 
       more : (t : Bool) (c : ℕ) → is_in c v.held ≡ true → is_in c (cond t (b ∷ v.held) v.held) ≡ true
-      more true c h = or_more (eqb c b) (is_in c v.held) h
+      more true c h = or_right (eqb c b) (is_in c v.held) h
       more false c h = h
 
   pub stored_release : (b found : ℕ) → b < blocks v.plan → IsStored w n (set marks b true) (release_view b found v) out
   stored_release b found inside = record {
     room = length-set marks b true ∙ st.room;
-    owed = λ c. marks_put marks b true c (let r = st.room in omega arith) ∙ (ap (λ t. cond (eqb c b) true t) (st.owed c) ∙ dite (ℕ_discrete c b)
+    owed = λ c. mark_put marks b true (let r = st.room in omega arith) c ∙ (ap (λ t. cond (eqb c b) true t) (st.owed c) ∙ dite (ℕ_discrete c b)
         (λ e. ap (λ s. cond s true (is_in c v.owed && ltb c (blocks v.plan))) (eq-eqb c b e) ∙ sym ((λ i. (eq-eqb c b e i || is_in c v.owed) && ltb (e i) (blocks v.plan)) ∙ lt-ltb b (blocks v.plan) inside))
         (λ ne. ap (λ s. cond s true (is_in c v.owed && ltb c (blocks v.plan))) (ne_eqb c b ne) ∙ sym (ap (λ s. (s || is_in c v.owed) && ltb c (blocks v.plan)) (ne_eqb c b ne))));
     worker = st.worker;
@@ -128,8 +110,8 @@ module _ (w n : ℕ) (marks : List Bool) (v : View) (out : List (ℕ × Option S
         && still_picked v (pick_view v.plan k x found v) refl (λ j in_j noted_is h. (still j noted_is, h)) out st.slots i);
   }
     where
-      still : (j : ℕ) → is_some (noted j v.picked) ≡ true → is_some (noted j ((k, x) ∷ v.picked)) ≡ true
-      still j h = dite (ℕ_discrete j k) (λ e. ap (λ z. is_some (noted z ((k, x) ∷ v.picked))) e ∙ ap is_some (noted_same k x v.picked)) (λ ne. ap is_some (noted_other j k x v.picked ne) ∙ h)
+      still : (j : ℕ) → is_some (noted_value j v.picked) ≡ true → is_some (noted_value j ((k, x) ∷ v.picked)) ≡ true
+      still j h = dite (ℕ_discrete j k) (λ e. ap (λ z. is_some (noted_value z ((k, x) ∷ v.picked))) e ∙ ap is_some (noted_same k x v.picked)) (λ ne. ap is_some (noted_other j k x v.picked ne) ∙ h)
 
   pub stored_lay : (k first second : ℕ) (x : BlockValue) → IsStored w n marks (lay_view v.plan k x second (draw_view v.plan k first v)) out
   stored_lay k first second x = record {
@@ -149,7 +131,7 @@ module _ (w n : ℕ) (marks : List Bool) (v : View) (out : List (ℕ × Option S
   stored_newcomer = record { room = length-replicate (blocks v.plan) false; owed = λ c. marks_of (blocks v.plan) false c; worker = st.passes; passes = refl; live = refl; undrawn = refl; slots = refl }
 
   pub stored_join : (w' n' : ℕ) (others both : List Bool) (u : View) (out' : List (ℕ × Option Shared)) → IsStored w' n' others u out' → blocks u.plan ≡ blocks v.plan → length both ≡ length marks
-      → ((c : ℕ) → get_or both c false ≡ (get_or marks c false || get_or others c false)) → IsStored w n both (merged v u) out
+      → ((c : ℕ) → get_or both c false ≡ (get_or marks c false || get_or others c false)) → IsStored w n both (joined_view v u) out
   stored_join w' n' others both u out' su same len either = record {
     room = len ∙ st.room;
     owed = λ c. either c ∙ ((λ i. st.owed c i || su.owed c i) ∙ (ap (λ m. (is_in c v.owed && ltb c (blocks v.plan)) || (is_in c u.owed && ltb c m)) same ∙ (spread (is_in c v.owed) (is_in c u.owed) (ltb c (blocks v.plan)) ∙ ap (λ t. t && ltb c (blocks v.plan)) (sym (is_in-append c v.owed u.owed)))));
@@ -157,7 +139,7 @@ module _ (w n : ℕ) (marks : List Bool) (v : View) (out : List (ℕ × Option S
     passes = st.passes;
     live = st.live;
     undrawn = st.undrawn;
-    slots = still_picked v (merged v u) refl (λ k inside noted_is h. (noted_more k v.picked u.picked noted_is, h)) out st.slots;
+    slots = still_picked v (joined_view v u) refl (λ k inside noted_is h. (noted_more k v.picked u.picked noted_is, h)) out st.slots;
   }
     where
       spread : (p q r : Bool) → ((p && r) || (q && r)) ≡ ((p || q) && r)

@@ -1,8 +1,8 @@
 -- An ask keeps the rule, and changes the state as its event does.
 use Rattle.std.proofs.Common.{◌≡◌, ◌≢◌, ◌⊎◌, ℕ, ◌-◌, ◌<◌, ◌^◌, Bool, true, false, true≢false, cond, eqb, ◌&&◌, List, [], ◌∷◌, length, get_or, set, refl, sym, ap, ◌∙◌, subst, inl, inr, ⊎_elim, arith, length-set, get_or-set_other, get_or-set_same}
 use Rattle.std.specs.Int.{bit_at}
-use Rattle.std.specs.Prelude.{bit_or, nat_lt, None, is_some}
-use Rattle.std.proofs.lemmas.Bool.{eqb-true, false_from_ne_true}
+use Rattle.std.specs.Prelude.{bit_or, None, is_some}
+use Rattle.std.proofs.lemmas.Bool.{eqb-true, false_from_ne_true, or_cases, or_right, or_left}
 use mathlib.Core.Option.{some, none}
 use mathlib.Core.Logic.{dite}
 use native.Mathlib.Decide.{ℕ_discrete}
@@ -15,20 +15,21 @@ use Rattle.nichols_core.specs.SixLaws.{SixLaws, NonePicked}
 use Rattle.nichols_core.specs.Runs.{one_if}
 use Rattle.nichols_core.proofs.Stages.{put_is, put_here, held_by, published}
 use Rattle.nichols_core.proofs.LawsKept.{core, whole, ask_keeps}
+use Rattle.nichols_core.proofs.Conditions.{true_held}
 use Rattle.nichols_shelf.specs.Plan.{PlanValue}
-use Rattle.nichols_shelf.specs.Lists.{is_in, without, noted}
+use Rattle.nichols_shelf.specs.Lists.{is_in, without, noted_value}
 use Rattle.nichols_shelf.specs.Places.{blocks, edges, edge, desk_place, wait_place, edge_place}
 use Rattle.nichols_shelf.specs.Views.{says_published, ask_view}
 use Rattle.nichols_shelf.specs.Words.{desk_word, done_bit, wait_bit, IsMarked, HasLetter, WordsStand}
 use Rattle.nichols_shelf.specs.Seats.{is_made_by}
 use Rattle.nichols_shelf.specs.Stands.{Tableau, Book, Stands, Holds}
-use Rattle.nichols_shelf.specs.Steps.{Mine, asked}
+use Rattle.nichols_shelf.specs.Steps.{Mine, ask_step}
 use Rattle.nichols_shelf.specs.declared.view.View.{View}
 use Rattle.nichols_shelf.proofs.Listed.{gone, others_stay}
-use Rattle.nichols_shelf.proofs.StageTests.{put_same, or_true, or_less, or_more, held_self, not_held_by, says_so}
+use Rattle.nichols_shelf.proofs.StageTests.{put_same, not_held_by, says_so}
 use Rattle.nichols_shelf.proofs.Bits.{bit_same, bit_other, same_exponent}
 use Rattle.nichols_shelf.proofs.Edges.{placed, same_exit}
-use Rattle.nichols_shelf.proofs.SeatsKept.{Elsewhere, seats_step}
+use Rattle.nichols_shelf.proofs.SeatsKept.{Elsewhere, seats_step, made_stays, published_stays}
 use Rattle.nichols_shelf.proofs.SlotsKept.{slots_kept}
 
 -- the words after the bit of an edge was set in its lower block's wait word
@@ -159,7 +160,7 @@ module _ (g : PlanValue) (rules : IsLayout g.layout) (s : Tableau) (m : Machine)
             resumed = kn.resumed;
             owed = kn.owed;
             made = kn.made;
-            known = λ c h. ⊎_elim (λ q. ap m.stage (eqb-true c l q) ∙ published (m.stage l) is) (λ q. kn.known c q) (or_true (eqb c l) (is_in c v.known) h);
+            known = λ c h. ⊎_elim (λ q. ap m.stage (eqb-true c l q) ∙ published (m.stage l) is) (λ q. kn.known c q) (or_cases (eqb c l) (is_in c v.known) h);
           });
       slots = slots_kept g s.words after_words s.homes s.homes s.views m m laws book.maker book.maker book.value book.drawn st.slots
           record { laid = λ j. refl; picked = λ j. refl; tended = λ w c h. inl h; drawn_held = λ w j in_j d. refl }
@@ -174,11 +175,14 @@ module _ (g : PlanValue) (rules : IsLayout g.layout) (s : Tableau) (m : Machine)
     abbrev n : Machine
     n = record m { stage = put m.stage b (Parked l) }
 
+    same_published : (c : ℕ) → is_published (n.stage c) ≡ is_published (m.stage c)
+    same_published = put_same m.stage b (Parked l) is_published (sym (ap is_published held))
+
     same_made : (u c : ℕ) → is_made_by g n book.maker u c ≡ is_made_by g m book.maker u c
-    same_made u c = ap (λ t. nat_lt c (blocks g) && (t && eqb (book.maker c) u)) (put_same m.stage b (Parked l) is_published (sym (ap is_published held)) c)
+    same_made = made_stays g m n book.maker same_published
 
     still_published : (c : ℕ) → m.stage c ≡ Published → n.stage c ≡ Published
-    still_published c e = published (n.stage c) (put_same m.stage b (Parked l) is_published (sym (ap is_published held)) c ∙ ap is_published e)
+    still_published = published_stays g m n book.maker same_published
 
     same_resumed : (u c : ℕ) → is_resumed_by u (n.stage c) ≡ is_resumed_by u (m.stage c)
     same_resumed u = put_same m.stage b (Parked l) (is_resumed_by u) (sym (ap (is_resumed_by u) held))
@@ -194,7 +198,7 @@ module _ (g : PlanValue) (rules : IsLayout g.layout) (s : Tableau) (m : Machine)
 
     -- no edge out of a block that the pass holds is drawn
     none_drawn : (j : ℕ) → j < edges g → (edge g j).lower ≡ b → book.drawn j ≡ true → ⊥
-    none_drawn j in_j e d = true≢false (sym (ap (λ t. t && is_held_by v.worker (m.stage (edge g j).lower)) d ∙ held_self v.worker (m.stage (edge g j).lower) (ap m.stage e ∙ held))
+    none_drawn j in_j e d = true≢false (sym (ap (λ t. t && is_held_by v.worker (m.stage (edge g j).lower)) d ∙ true_held v.worker (m.stage (edge g j).lower) (ap m.stage e ∙ held))
         ∙ sym ((st.slots.notes id v at live).draws j in_j) ∙ ap (is_in j) undrawn)
 
     parks : Stands g record { words = after_words; homes = s.homes; views = set s.views id let_go } n book
@@ -215,9 +219,9 @@ module _ (g : PlanValue) (rules : IsLayout g.layout) (s : Tableau) (m : Machine)
             laid = λ j. refl;
             picked = λ j. refl;
             tended = λ w c h. inl (⊎_elim
-                (λ q. or_less (is_held_by w (m.stage c)) (is_made_by g m book.maker w c) (put_is m.stage b (Parked l) c (λ t. is_held_by w t ≡ true → is_held_by w (m.stage c) ≡ true) (λ _ p. absurd (true≢false (sym p))) (λ _ p. p) q))
-                (λ q. or_more (is_held_by w (m.stage c)) (is_made_by g m book.maker w c) (sym (same_made w c) ∙ q))
-                (or_true (is_held_by w (n.stage c)) (is_made_by g n book.maker w c) h));
+                (λ q. or_left (is_held_by w (m.stage c)) (is_made_by g m book.maker w c) (put_is m.stage b (Parked l) c (λ t. is_held_by w t ≡ true → is_held_by w (m.stage c) ≡ true) (λ _ p. absurd (true≢false (sym p))) (λ _ p. p) q))
+                (λ q. or_right (is_held_by w (m.stage c)) (is_made_by g m book.maker w c) (sym (same_made w c) ∙ q))
+                (or_cases (is_held_by w (n.stage c)) (is_made_by g n book.maker w c) h));
             drawn_held = λ w j in_j d. put_is m.stage b (Parked l) (edge g j).lower (λ t. is_held_by w t ≡ is_held_by w (m.stage (edge g j).lower)) (λ e. absurd (none_drawn j in_j e d)) (λ _. refl);
           }
           id v let_go at live refl refl refl refl (λ j _. edge_same g rules s.words m st.words k in_k j) refl (λ j _ _. refl) (λ j _ x e. e);
@@ -234,9 +238,9 @@ module _ (g : PlanValue) (rules : IsLayout g.layout) (s : Tableau) (m : Machine)
       both true is = beside is
       both false is = parks is
 
-  pub none_picked : ((j : ℕ) → j < edges g → (edge g j).upper ≡ b → noted j v.picked ≡ None) → NonePicked g.layout.edges m b
+  pub none_picked : ((j : ℕ) → j < edges g → (edge g j).upper ≡ b → noted_value j v.picked ≡ None) → NonePicked g.layout.edges m b
   none_picked unpicked j in_j up = false_from_ne_true (m.picked j) (λ p.
-      let tended = or_less (is_held_by v.worker (m.stage (edge g j).upper)) (is_made_by g m book.maker v.worker (edge g j).upper) (held_self v.worker (m.stage (edge g j).upper) (ap m.stage up ∙ held)) in
+      let tended = or_left (is_held_by v.worker (m.stage (edge g j).upper)) (is_made_by g m book.maker v.worker (edge g j).upper) (true_held v.worker (m.stage (edge g j).upper) (ap m.stage up ∙ held)) in
       true≢false (sym ((st.slots.notes id v at live).picks j in_j tended p) ∙ ap is_some (unpicked j in_j up)))
 
 -- the bit names the edge
@@ -248,8 +252,8 @@ named g rules j k in_j in_k place bit =
     same_exit g rules k j in_k in_j (omega arith) (omega arith)
 
 pub ask_allowed : (g : PlanValue) (slots id : ℕ) (me : Mine) (k : ℕ) → k < edges g → me.0.live ≡ true → is_in (edge g k).upper me.0.held ≡ true → me.0.drawn ≡ []
-    → ((j : ℕ) → j < edges g → (edge g j).upper ≡ (edge g k).upper → noted j me.0.picked ≡ None)
-    → Allows (Holds g) slots id me (wait_place g (edge g k).lower) (λ x. bit_or x (2 ^ ((edge g k).letter - 1))) (asked (step slots (wait_place g (edge g k).lower) (2 ^ ((edge g k).letter - 1)) 0 none) me)
+    → ((j : ℕ) → j < edges g → (edge g j).upper ≡ (edge g k).upper → noted_value j me.0.picked ≡ None)
+    → Allows (Holds g) slots id me (wait_place g (edge g k).lower) (λ x. bit_or x (2 ^ ((edge g k).letter - 1))) (ask_step (step slots (wait_place g (edge g k).lower) (2 ^ ((edge g k).letter - 1)) 0 none) me)
 ask_allowed g slots id me k in_k live lists undrawn unpicked s h deep at word =
     let x = get_or s.words (wait_place g (edge g k).lower) 0 in
     let kn = h.stands.seats.knows id me.0 at live in

@@ -1,7 +1,7 @@
 -- A draw keeps the rule, and leaves the state.
 use Rattle.std.proofs.Common.{◌≡◌, ◌≢◌, ℕ, ◌+◌, ◌-◌, ◌*◌, ◌<◌, Bool, true, false, true≢false, ◌&&◌, ◌||◌, List, [], ◌∷◌, get_or, set, refl, sym, ap, ◌∙◌, subst, ⊎_elim, eq-eqb, ne_eqb, arith, Option, length-set}
 use Rattle.std.specs.Prelude.{Some, None, is_some}
-use Rattle.std.proofs.lemmas.Bool.{false_from_ne_true}
+use Rattle.std.proofs.lemmas.Bool.{false_from_ne_true, or_left}
 use mathlib.Core.Option.{some, none}
 use mathlib.Core.Logic.{dite}
 use native.Mathlib.Decide.{ℕ_discrete}
@@ -13,25 +13,26 @@ use Rattle.nichols_core.specs.declared.stage.Stage.TheVariants.{Held}
 use Rattle.nichols_core.specs.Machine.{Machine, put, is_held_by}
 use Rattle.nichols_core.specs.SixLaws.{SixLaws, AllPicked}
 use Rattle.nichols_core.proofs.Stages.{put_here, put_else, held_by}
+use Rattle.nichols_core.proofs.Conditions.{true_held}
 use Rattle.nichols_value.specs.declared.value.BlockValue.{BlockValue}
 use Rattle.nichols_shelf.specs.Plan.{PlanValue}
-use Rattle.nichols_shelf.specs.Lists.{is_in, noted}
+use Rattle.nichols_shelf.specs.Lists.{is_in, noted_value}
 use Rattle.nichols_shelf.specs.Places.{blocks, edges, edge, edge_place}
 use Rattle.nichols_shelf.specs.Views.{draw_view}
 use Rattle.nichols_shelf.specs.Seats.{is_made_by}
 use Rattle.nichols_shelf.specs.Slots.{edge_code, IsDrawn, Notes, SlotsStand}
 use Rattle.nichols_shelf.specs.Stands.{Tableau, Book, Stands, Holds}
-use Rattle.nichols_shelf.specs.Steps.{Mine, drew}
+use Rattle.nichols_shelf.specs.Steps.{Mine, draw_step}
 use Rattle.nichols_shelf.specs.declared.view.View.{View}
-use Rattle.nichols_shelf.proofs.StageTests.{or_less, held_self, not_held_by}
+use Rattle.nichols_shelf.proofs.StageTests.{not_held_by}
 use Rattle.nichols_shelf.proofs.Edges.{placed}
 use Rattle.nichols_shelf.proofs.EdgeWords.{code_here, code_else, words_same, seats_same}
 use Rattle.nichols_shelf.proofs.SeatsKept.{other_worker}
 
 module _ (g : PlanValue) (rules : IsLayout g.layout) (s : Tableau) (m : Machine) (laws : SixLaws g.layout.edges m) (book : Book) (st : Stands g s m book)
     (id : ℕ) (v : View) (at : get_elem? s.views id ≡ some v) (live : v.live ≡ true) (k : ℕ) (in_k : k < edges g) (lists : is_in (edge g k).lower v.held ≡ true)
-    (all_picked : (j : ℕ) → j < edges g → (edge g j).upper ≡ (edge g k).lower → is_some (noted j v.picked) ≡ true)
-    (not_laid : noted k v.laid ≡ None) (undrawn : v.drawn ≡ []) where
+    (all_picked : (j : ℕ) → j < edges g → (edge g j).upper ≡ (edge g k).lower → is_some (noted_value j v.picked) ≡ true)
+    (not_laid : noted_value k v.laid ≡ None) (undrawn : v.drawn ≡ []) where
   abbrev low : ℕ
   low = (edge g k).lower
 
@@ -51,10 +52,10 @@ module _ (g : PlanValue) (rules : IsLayout g.layout) (s : Tableau) (m : Machine)
   held = held_by v.worker (m.stage low) (sym ((st.seats.knows id v at live).held low) ∙ lists)
 
   is_held : is_held_by v.worker (m.stage low) ≡ true
-  is_held = held_self v.worker (m.stage low) held
+  is_held = true_held v.worker (m.stage low) held
 
   unlaid : m.laid k ≡ false
-  unlaid = false_from_ne_true (m.laid k) (λ p. true≢false (sym (notes.lays k in_k (or_less (is_held_by v.worker (m.stage low)) (is_made_by g m book.maker v.worker low) is_held) p) ∙ ap is_some not_laid))
+  unlaid = false_from_ne_true (m.laid k) (λ p. true≢false (sym (notes.lays k in_k (or_left (is_held_by v.worker (m.stage low)) (is_made_by g m book.maker v.worker low) is_held) p) ∙ ap is_some not_laid))
 
   not_yet : book.drawn k ≡ false
   not_yet = false_from_ne_true (book.drawn k) (λ d. true≢false (sym ((λ i. d i && is_held i)) ∙ sym (notes.draws k in_k) ∙ ap (is_in k) undrawn))
@@ -64,7 +65,7 @@ module _ (g : PlanValue) (rules : IsLayout g.layout) (s : Tableau) (m : Machine)
   value_of None h = absurd (true≢false (sym h))
 
   full : AllPicked g.layout.edges m low
-  full j in_j up = let x = value_of (noted j v.picked) (all_picked j in_j up) in (notes.picked j x.0 x.1).1
+  full j in_j up = let x = value_of (noted_value j v.picked) (all_picked j in_j up) in (notes.picked j x.0 x.1).1
 
   unpicked : m.picked k ≡ false
   unpicked = false_from_ne_true (m.picked k) (λ p. true≢false (sym (laws.picked k in_k p).0 ∙ unlaid))
@@ -118,9 +119,9 @@ module _ (g : PlanValue) (rules : IsLayout g.layout) (s : Tableau) (m : Machine)
   }
 
 pub draw_allowed : (g : PlanValue) (slots id : ℕ) (me : Mine) (k : ℕ) → k < edges g → me.0.live ≡ true → is_in (edge g k).lower me.0.held ≡ true
-    → ((j : ℕ) → j < edges g → (edge g j).upper ≡ (edge g k).lower → is_some (noted j me.0.picked) ≡ true)
-    → noted k me.0.laid ≡ None → me.0.drawn ≡ []
-    → Allows (Holds g) slots id me (edge_place g k) (λ _. 1) (drew (step slots (edge_place g k) 1 0 none) me)
+    → ((j : ℕ) → j < edges g → (edge g j).upper ≡ (edge g k).lower → is_some (noted_value j me.0.picked) ≡ true)
+    → noted_value k me.0.laid ≡ None → me.0.drawn ≡ []
+    → Allows (Holds g) slots id me (edge_place g k) (λ _. 1) (draw_step (step slots (edge_place g k) 1 0 none) me)
 draw_allowed g slots id me k in_k live lists picks lays undrawn s h deep at word =
     let x = get_or s.words (edge_place g k) 0 in
     let kn = h.stands.seats.knows id me.0 at live in

@@ -1,7 +1,9 @@
 -- The edges of a plan, by the rules of its layout.
 use Rattle.std.proofs.Common.{◌≡◌, ℕ, ◌+◌, ◌-◌, ◌*◌, ◌<◌, ◌≢◌, refl, sym, ◌∙◌, arith, length}
 use Rattle.std.specs.Prelude.{Some}
+use Rattle.nichols_tensor.specs.declared.TheConstants.{LETTER_LIMIT}
 use Rattle.nichols_core.specs.Layout.{LayoutValue, IsLayout, IsPlaced, no_edge, edge_at}
+use Rattle.nichols_core.specs.declared.edge.Edge.{Edge}
 use Rattle.nichols_core.proofs.EdgesFound.{out_found, into_found}
 use Rattle.nichols_shelf.specs.Plan.{PlanValue}
 use Rattle.nichols_shelf.specs.Tables.{letter_place}
@@ -28,23 +30,22 @@ pub same_exit : (g : PlanValue) → IsLayout g.layout → (j k : ℕ) → j < ed
 same_exit g = one_exit g.layout
 
 -- two edges have two places in a table
-same_place : (b c x y : ℕ) → x < 24 → y < 24 → b * 24 + x ≡ c * 24 + y → (b ≡ c) × (x ≡ y)
+same_place : (b c x y : ℕ) → x < LETTER_LIMIT → y < LETTER_LIMIT → b * LETTER_LIMIT + x ≡ c * LETTER_LIMIT + y → (b ≡ c) × (x ≡ y)
 same_place b c x y h i e = (omega arith, omega arith)
 
-pub entries_apart : (l : LayoutValue) → IsLayout l → (j k : ℕ) → j < length l.edges → k < length l.edges → j ≢ k → letter_place (edge_at l.edges j).upper (edge_at l.edges j).letter ≢ letter_place (edge_at l.edges k).upper (edge_at l.edges k).letter
-entries_apart l rules j k in_j in_k ne e =
+places_apart : (block : Edge → ℕ) (l : LayoutValue) → IsLayout l
+    → ((j k : ℕ) → j < length l.edges → k < length l.edges → block (edge_at l.edges j) ≡ block (edge_at l.edges k) → (edge_at l.edges j).letter ≡ (edge_at l.edges k).letter → j ≡ k)
+    → (j k : ℕ) → j < length l.edges → k < length l.edges → j ≢ k → letter_place (block (edge_at l.edges j)) (edge_at l.edges j).letter ≢ letter_place (block (edge_at l.edges k)) (edge_at l.edges k).letter
+places_apart block l rules one j k in_j in_k ne e =
     let p = rules.good.placed j no_edge in_j in
     let q = rules.good.placed k no_edge in_k in
     let from_j = p.from_one in let to_j = p.to_last in let from_k = q.from_one in let to_k = q.to_last in
-    let same = same_place (edge_at l.edges j).upper (edge_at l.edges k).upper ((edge_at l.edges j).letter - 1) ((edge_at l.edges k).letter - 1) (omega arith) (omega arith) e in
+    let same = same_place (block (edge_at l.edges j)) (block (edge_at l.edges k)) ((edge_at l.edges j).letter - 1) ((edge_at l.edges k).letter - 1) (omega arith) (omega arith) e in
     let letters = same.1 in
-    ne (one_entry l rules j k in_j in_k same.0 (omega arith))
+    ne (one j k in_j in_k same.0 (omega arith))
+
+pub entries_apart : (l : LayoutValue) → IsLayout l → (j k : ℕ) → j < length l.edges → k < length l.edges → j ≢ k → letter_place (edge_at l.edges j).upper (edge_at l.edges j).letter ≢ letter_place (edge_at l.edges k).upper (edge_at l.edges k).letter
+entries_apart l rules = places_apart (λ e. e.upper) l rules (one_entry l rules)
 
 pub exits_apart : (l : LayoutValue) → IsLayout l → (j k : ℕ) → j < length l.edges → k < length l.edges → j ≢ k → letter_place (edge_at l.edges j).lower (edge_at l.edges j).letter ≢ letter_place (edge_at l.edges k).lower (edge_at l.edges k).letter
-exits_apart l rules j k in_j in_k ne e =
-    let p = rules.good.placed j no_edge in_j in
-    let q = rules.good.placed k no_edge in_k in
-    let from_j = p.from_one in let to_j = p.to_last in let from_k = q.from_one in let to_k = q.to_last in
-    let same = same_place (edge_at l.edges j).lower (edge_at l.edges k).lower ((edge_at l.edges j).letter - 1) ((edge_at l.edges k).letter - 1) (omega arith) (omega arith) e in
-    let letters = same.1 in
-    ne (one_exit l rules j k in_j in_k same.0 (omega arith))
+exits_apart l rules = places_apart (λ e. e.lower) l rules (one_exit l rules)

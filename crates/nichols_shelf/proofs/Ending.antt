@@ -1,7 +1,7 @@
 -- The table as it ends.
-use Rattle.std.proofs.Common.{◌≡◌, ◌≢◌, ℕ, ◌<◌, Bool, true, false, true≢false, eqb, ◌&&◌, ◌||◌, List, refl, sym, ap, ◌∙◌, subst, lt-ltb, eq-eqb, arith, Option}
+use Rattle.std.proofs.Common.{◌≡◌, ◌≢◌, ℕ, ◌<◌, Bool, true, false, true≢false, eqb, ◌&&◌, List, refl, sym, ap, ◌∙◌, subst, lt-ltb, eq-eqb, arith, Option}
 use Rattle.std.specs.Prelude.{nat_lt}
-use Rattle.std.proofs.lemmas.Bool.{false_from_ne_true}
+use Rattle.std.proofs.lemmas.Bool.{false_from_ne_true, or_right, and_parts}
 use mathlib.Core.Option.{some}
 use mathlib.Core.Logic.{dite}
 use native.Mathlib.Decide.{ℕ_discrete}
@@ -9,10 +9,11 @@ use lib.ListN.{get_elem?}
 use Rattle.atomic_table.specs.Table.{Final, Seen}
 use Rattle.nichols_core.specs.declared.stage.Stage.{Stage}
 use Rattle.nichols_core.specs.declared.stage.Stage.TheVariants.{Ready, Held, Parked, Resumed, Published}
-use Rattle.nichols_core.specs.Machine.{Machine, is_held_by, is_resumed_by, is_published}
+use Rattle.nichols_core.specs.Machine.{Machine, is_held_by, is_published}
 use Rattle.nichols_core.specs.Runs.{one_if}
 use Rattle.nichols_core.proofs.Stages.{published}
 use Rattle.nichols_core.proofs.RunsKept.{where_nothing_is_owed_all_is_published}
+use Rattle.nichols_core.proofs.Conditions.{true_held, true_resumed}
 use Rattle.nichols_value.specs.declared.shared.Shared.{Shared}
 use Rattle.nichols_shelf.specs.Plan.{PlanValue, IsRightFor}
 use Rattle.nichols_shelf.specs.Lists.{is_in, times_in}
@@ -23,7 +24,7 @@ use Rattle.nichols_shelf.specs.Slots.{Notes}
 use Rattle.nichols_shelf.specs.Stands.{Tableau, Holds}
 use Rattle.nichols_shelf.specs.Settled.{HoldsNothing, ResumesNothing, OwesNothing, IsSettled, SayWhatIsMade}
 use Rattle.nichols_shelf.specs.declared.view.View.{View}
-use Rattle.nichols_shelf.proofs.StageTests.{or_less, or_more, and_true, held_self, resumed_self}
+use Rattle.nichols_shelf.proofs.SeatsKept.{concerns_held, concerns_resumed, concerns_owed, concerns_made}
 
 module _ (g : PlanValue) (s : Tableau) (h : Holds g s) (id : ℕ) (v : View) (at : get_elem? s.views id ≡ some v) (live : v.live ≡ true) (zeroth : v.worker ≡ 0) (all : v.joined ≡ v.passes) where
   abbrev m : Machine
@@ -50,8 +51,7 @@ module _ (g : PlanValue) (s : Tableau) (h : Holds g s) (id : ℕ) (v : View) (at
       two : (t : Bool) → is_published (m.stage b) ≡ t → is_made_by g m maker v.worker b ≡ t
       two true is =
           let made : is_made_by g m maker (maker b) b ≡ true = λ i. lt-ltb b (blocks g) inside i && (is i && eq-eqb (maker b) (maker b) refl i) in
-          let mine = alone_concerned (maker b) b (or_more (is_held_by (maker b) (m.stage b)) (is_resumed_by (maker b) (m.stage b) || (m.owes (maker b) b || is_made_by g m maker (maker b) b))
-          (or_more (is_resumed_by (maker b) (m.stage b)) (m.owes (maker b) b || is_made_by g m maker (maker b) b) (or_more (m.owes (maker b) b) (is_made_by g m maker (maker b) b) made))) in
+          let mine = alone_concerned (maker b) b (concerns_made g m maker (maker b) b made) in
           ap (λ w. is_made_by g m maker w b) (sym mine) ∙ made
       two false is = (λ i. lt-ltb b (blocks g) inside i && (is i && eqb (maker b) v.worker))
 
@@ -68,12 +68,11 @@ module _ (g : PlanValue) (s : Tableau) (h : Holds g s) (id : ℕ) (v : View) (at
   module _ (no_held : HoldsNothing v) (no_resumed : ResumesNothing v) where
     idle : (b w : ℕ) → is_in b v.owed ≡ false → (m.stage b ≢ Held w) × (m.stage b ≢ Resumed w) × (m.owes w b ≡ false)
     idle b w unowed = (
-      (λ e. let z = alone_concerned w b (or_less (is_held_by w (m.stage b)) (is_resumed_by w (m.stage b) || (m.owes w b || is_made_by g m maker w b)) (held_self w (m.stage b) e)) in
-          true≢false (sym (held_self v.worker (m.stage b) (e ∙ ap (λ y. Held y) z)) ∙ (sym (k.held b) ∙ no_held b))),
-      (λ e. let z = alone_concerned w b (or_more (is_held_by w (m.stage b)) (is_resumed_by w (m.stage b) || (m.owes w b || is_made_by g m maker w b)) (or_less (is_resumed_by w (m.stage b)) (m.owes w b || is_made_by g m maker w b) (resumed_self w (m.stage b) e))) in
-          true≢false (sym (resumed_self v.worker (m.stage b) (e ∙ ap (λ y. Resumed y) z)) ∙ (sym (k.resumed b) ∙ no_resumed b))),
-      false_from_ne_true (m.owes w b) (λ e. let z = alone_concerned w b (or_more (is_held_by w (m.stage b)) (is_resumed_by w (m.stage b) || (m.owes w b || is_made_by g m maker w b))
-          (or_more (is_resumed_by w (m.stage b)) (m.owes w b || is_made_by g m maker w b) (or_less (m.owes w b) (is_made_by g m maker w b) e))) in
+      (λ e. let z = alone_concerned w b (concerns_held g m maker w b (true_held w (m.stage b) e)) in
+          true≢false (sym (true_held v.worker (m.stage b) (e ∙ ap (λ y. Held y) z)) ∙ (sym (k.held b) ∙ no_held b))),
+      (λ e. let z = alone_concerned w b (concerns_resumed g m maker w b (true_resumed w (m.stage b) e)) in
+          true≢false (sym (true_resumed v.worker (m.stage b) (e ∙ ap (λ y. Resumed y) z)) ∙ (sym (k.resumed b) ∙ no_resumed b))),
+      false_from_ne_true (m.owes w b) (λ e. let z = alone_concerned w b (concerns_owed g m maker w b e) in
           true≢false (sym (k.owed b ∙ ap (λ y. m.owes y b) (sym z) ∙ e) ∙ unowed)),
     )
 
@@ -90,8 +89,8 @@ module _ (g : PlanValue) (s : Tableau) (h : Holds g s) (id : ℕ) (v : View) (at
       values = λ j in_j made.
           let low = (edge g j).lower in
           let tended = made_true (is_made_by g m maker v.worker low) (sym (k.made low) ∙ made) in
-          let is = published (m.stage low) (and_true (is_published (m.stage low)) (eqb (maker low) v.worker) (and_true (nat_lt low (blocks g)) (is_published (m.stage low) && eqb (maker low) v.worker) tended).1).0 in
-          notes.lays j in_j (or_more (is_held_by v.worker (m.stage low)) (is_made_by g m maker v.worker low) tended) ((h.laws.published low is).1 j in_j refl);
+          let is = published (m.stage low) (and_parts (is_published (m.stage low)) (eqb (maker low) v.worker) (and_parts (nat_lt low (blocks g)) (is_published (m.stage low) && eqb (maker low) v.worker) tended).1).0 in
+          notes.lays j in_j (or_right (is_held_by v.worker (m.stage low)) (is_made_by g m maker v.worker low) tended) ((h.laws.published low is).1 j in_j refl);
       right = λ j x e. let p = notes.laid j x e in subst (IsRightFor g (edge g j).lower) (sym p.2) (h.stands.slots.right j p.0 p.1);
       equal = λ i j x y same e f. (notes.laid i x e).2 ∙ ap h.book.value same ∙ sym (notes.laid j y f).2;
     }

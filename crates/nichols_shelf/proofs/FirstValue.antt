@@ -1,11 +1,9 @@
 -- The value of a block of degree 1 is right.
-use Rattle.std.proofs.Common.{◌≡◌, ◌≤◌, ℕ, Bool, true, false, cond, List, [], ◌∷◌, length, inl, sym, ◌∙◌, arith}
+use Rattle.std.proofs.Common.{◌≡◌, ◌≤◌, ℕ, true, List, [], ◌∷◌, inl, sym, ◌∙◌, arith}
 use Rattle.std.specs.List.{AllByRecursion}
 use Rattle.nichols_braid.specs.Braid.{BraidValue}
 use Rattle.nichols_braid.specs.Kernel.{is_killed}
-use Rattle.nichols_braid.specs.Least.{candidates}
-use Rattle.nichols_braid.specs.Product.{has_product, product_before}
-use Rattle.nichols_braid.specs.Products.{rows}
+use Rattle.nichols_braid.specs.Product.{product_before}
 use Rattle.nichols_value.specs.Block.{is_whole}
 use Rattle.nichols_value.specs.Rule.{rule_of}
 use Rattle.nichols_value.specs.Value.{IsRight}
@@ -14,17 +12,10 @@ use Rattle.nichols_value.specs.declared.shared.LowerValue.{LowerValue}
 use Rattle.nichols_value.specs.declared.value.BlockValue.TheVariants.{Rule}
 use Rattle.nichols_value.proofs.Wholes.{rule_value, whole_below_first, whole_from}
 use Rattle.nichols_block.specs.Lower.{AreLowerRules, AreLowerValues}
-
-one_at_most : (b : Bool) → length (cond {A = List (List ℕ)} b ([] ∷ []) []) ≤ 1
-one_at_most true = omega arith
-one_at_most false = omega arith
-
-few_first : (braid : BraidValue) (g : List ℕ) → rows is_killed braid 0 g ≤ 1
-unfolding rows candidates
-few_first braid g = one_at_most (has_product braid g [])
+use Rattle.nichols_braid.proofs.FirstDegree.{first_rows}
 
 whole_first : (braid : BraidValue) (limit : ℕ) (g : List ℕ) → 1 ≤ limit → is_whole braid limit 0 g ≡ true
-whole_first braid limit g some = let few = few_first braid g in whole_from braid limit 0 g (omega (arith, few, some)) (whole_below_first braid limit g)
+whole_first braid limit g some = let few = first_rows is_killed braid g in whole_from braid limit 0 g (omega (arith, few, some)) (whole_below_first braid limit g)
 
 -- the lower rules of a block of degree 1 are right
 pub lower_rules_are_right : (braid : BraidValue) (limit : ℕ) (g : List ℕ) (lower : List LowerValue) → 1 ≤ limit → AreLowerRules braid (record { degree = 1; product = g }) lower → AreLowerValues braid limit (record { degree = 1; product = g }) lower

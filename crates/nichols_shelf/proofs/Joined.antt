@@ -1,7 +1,8 @@
 -- A join keeps the rule, and in the state worker 0 takes over what the other worker owed.
 use Rattle.std.proofs.Common.{◌≡◌, ◌≢◌, ◌⊎◌, ℕ, ◌+◌, Bool, true, false, true≢false, cond, eqb, ◌&&◌, ◌||◌, List, set, refl, sym, ap, ◌∙◌, subst, inl, inr, ⊎_elim, eq-eqb, ne_eqb, arith}
 use Rattle.std.specs.Prelude.{nat_lt}
-use Rattle.std.proofs.lemmas.Bool.{eqb-true}
+use Rattle.std.proofs.lemmas.Bool.{eqb-true, or_cases, or_right, or_left, and_parts}
+use Rattle.std.proofs.Math.Bool.{or-false}
 use mathlib.Core.Option.{some, some-injective}
 use mathlib.Core.Logic.{dite}
 use native.Mathlib.Decide.{ℕ_discrete}
@@ -15,22 +16,18 @@ use Rattle.nichols_core.proofs.Debts.{a_worker_may_take_over_debts}
 use Rattle.nichols_shelf.specs.Plan.{PlanValue}
 use Rattle.nichols_shelf.specs.Lists.{is_in}
 use Rattle.nichols_shelf.specs.Places.{blocks, edge}
-use Rattle.nichols_shelf.specs.Views.{merged, spent_view}
+use Rattle.nichols_shelf.specs.Views.{joined_view, spent_view}
 use Rattle.nichols_shelf.specs.Seats.{is_made_by, tends, concerns, Knows, IsNumbered, Lives, SeatsStand}
 use Rattle.nichols_shelf.specs.Slots.{Notes, SlotsStand}
 use Rattle.nichols_shelf.specs.Stands.{Tableau, Book, Stands, Holds}
 use Rattle.nichols_shelf.specs.declared.view.View.{View}
 use Rattle.nichols_shelf.proofs.Listed.{is_in-append, times_in-append, noted_more, noted_later, noted_either}
-use Rattle.nichols_shelf.proofs.StageTests.{or_true, or_less, or_more, and_true}
 use Rattle.nichols_shelf.proofs.SeatsKept.{lives_set}
+use Rattle.nichols_shelf.proofs.SlotsKept.{slots_stay}
 
 -- the blocks that o made are worker 0's
 abbrev pub taken_over : (ℕ → ℕ) → ℕ → ℕ → ℕ
 taken_over maker o b = cond (eqb (maker b) o) 0 (maker b)
-
-or_assoc : (p q r : Bool) → (p || (q || r)) ≡ ((p || q) || r)
-or_assoc true q r = refl
-or_assoc false q r = refl
 
 -- two counts of one block, which two workers can't both have made
 one_of_two : (p q r t : Bool) → (r ≡ true → t ≡ true → ⊥) → one_if (p && (q && r)) + one_if (p && (q && t)) ≡ one_if (p && (q && (r || t)))
@@ -55,7 +52,7 @@ module _ (g : PlanValue) (s : Tableau) (m : Machine) (book : Book) (st : Stands 
   maker = taken_over book.maker u.worker
 
   abbrev after : List View
-  after = set (set s.views id (merged v u)) o spent_view
+  after = set (set s.views id (joined_view v u)) o spent_view
 
   first_is : u.worker ≡ book.first
   first_is = next ∙ ((st.seats.numbers id v at live).zeroth zeroth).1
@@ -72,12 +69,8 @@ module _ (g : PlanValue) (s : Tableau) (m : Machine) (book : Book) (st : Stands 
   -- who made a block, afterwards
   made_by_zero : (b : ℕ) → eqb (maker b) 0 ≡ (eqb (book.maker b) 0 || eqb (book.maker b) u.worker)
   made_by_zero b = dite (ℕ_discrete (book.maker b) u.worker)
-      (λ q. ap (λ t. eqb (cond t 0 (book.maker b)) 0) (eq-eqb (book.maker b) u.worker q) ∙ (eq-eqb 0 0 refl ∙ sym (or_more (eqb (book.maker b) 0) (eqb (book.maker b) u.worker) (eq-eqb (book.maker b) u.worker q))))
-      (λ ne. ap (λ t. eqb (cond t 0 (book.maker b)) 0) (ne_eqb (book.maker b) u.worker ne) ∙ (or_false (eqb (book.maker b) 0) ∙ ap (λ t. eqb (book.maker b) 0 || t) (sym (ne_eqb (book.maker b) u.worker ne))))
-    where
-      or_false : (t : Bool) → t ≡ (t || false)
-      or_false true = refl
-      or_false false = refl
+      (λ q. ap (λ t. eqb (cond t 0 (book.maker b)) 0) (eq-eqb (book.maker b) u.worker q) ∙ (eq-eqb 0 0 refl ∙ sym (or_right (eqb (book.maker b) 0) (eqb (book.maker b) u.worker) (eq-eqb (book.maker b) u.worker q))))
+      (λ ne. ap (λ t. eqb (cond t 0 (book.maker b)) 0) (ne_eqb (book.maker b) u.worker ne) ∙ (sym (or-false (eqb (book.maker b) 0)) ∙ ap (λ t. eqb (book.maker b) 0 || t) (sym (ne_eqb (book.maker b) u.worker ne))))
 
   made_by_other : (w b : ℕ) → w ≢ 0 → w ≢ u.worker → eqb (maker b) w ≡ eqb (book.maker b) w
   made_by_other w b nz differs = dite (ℕ_discrete (book.maker b) u.worker)
@@ -99,15 +92,15 @@ module _ (g : PlanValue) (s : Tableau) (m : Machine) (book : Book) (st : Stands 
       (λ ne. ap (λ t. eqb (cond t 0 (book.maker b)) u.worker) (ne_eqb (book.maker b) u.worker ne) ∙ ne_eqb (book.maker b) u.worker ne)
 
   -- what holds of the kept pass and of the others holds of all live ones afterwards
-  all_after : (P : ℕ → View → Type 0) → P id (merged v u) → ((j : ℕ) (x : View) → j ≢ id → j ≢ o → get_elem? s.views j ≡ some x → x.live ≡ true → P j x)
+  all_after : (P : ℕ → View → Type 0) → P id (joined_view v u) → ((j : ℕ) (x : View) → j ≢ id → j ≢ o → get_elem? s.views j ≡ some x → x.live ≡ true → P j x)
       → (j : ℕ) (x : View) → get_elem? after j ≡ some x → x.live ≡ true → P j x
   all_after P mine other j x e lives = ⊎_elim
       (λ (t : (j ≡ o) × (spent_view ≡ x)). absurd (true≢false (sym lives ∙ ap (λ (y : View). y.live) (sym t.1))))
-      (λ (t : (j ≢ o) × (get_elem? (set s.views id (merged v u)) j ≡ some x)). ⊎_elim
-      (λ (r : (j ≡ id) × (merged v u ≡ x)). subst (λ (y : ℕ × View). P y.0 y.1) (λ i. (sym r.0 i, r.1 i)) mine)
+      (λ (t : (j ≢ o) × (get_elem? (set s.views id (joined_view v u)) j ≡ some x)). ⊎_elim
+      (λ (r : (j ≡ id) × (joined_view v u ≡ x)). subst (λ (y : ℕ × View). P y.0 y.1) (λ i. (sym r.0 i, r.1 i)) mine)
       (λ (r : (j ≢ id) × (get_elem? s.views j ≡ some x)). other j x r.0 t.0 r.1 lives)
-      (at_set s.views id j (merged v u) x t.1))
-      (at_set (set s.views id (merged v u)) o j spent_view x e)
+      (at_set s.views id j (joined_view v u) x t.1))
+      (at_set (set s.views id (joined_view v u)) o j spent_view x e)
 
   other_numbers : (j : ℕ) (x : View) → j ≢ id → j ≢ o → get_elem? s.views j ≡ some x → x.live ≡ true → (x.worker ≢ 0) × (x.worker ≢ u.worker)
   other_numbers j x a b e lives = let k = st.seats.knows j x e lives in
@@ -125,7 +118,7 @@ module _ (g : PlanValue) (s : Tableau) (m : Machine) (book : Book) (st : Stands 
           held = kv.held;
           resumed = kv.resumed;
           owed = λ b. is_in-append b v.owed u.owed ∙ (λ i. kv.owed b i || ku.owed b i) ∙ sym (owes_zero b);
-          known = λ b e. ⊎_elim (kv.known b) (ku.known b) (or_true (is_in b v.known) (is_in b u.known) (sym (is_in-append b v.known u.known) ∙ e));
+          known = λ b e. ⊎_elim (kv.known b) (ku.known b) (or_cases (is_in b v.known) (is_in b u.known) (sym (is_in-append b v.known u.known) ∙ e));
           made = λ b. times_in-append b v.made u.made ∙ (λ i. kv.made b i + ku.made b i)
               ∙ (one_of_two (nat_lt b (blocks g)) (is_published (m.stage b)) (eqb (book.maker b) v.worker) (eqb (book.maker b) u.worker) (λ x y. not_zero (sym (eqb-true (book.maker b) u.worker y) ∙ eqb-true (book.maker b) v.worker x ∙ zeroth))
               ∙ ap one_if (sym (made_zero b)));
@@ -152,9 +145,9 @@ module _ (g : PlanValue) (s : Tableau) (m : Machine) (book : Book) (st : Stands 
     where
       lives_on : (w : ℕ) → w ≢ u.worker → Lives s.views w (book.seat w) → Lives after w (book.seat w)
       lives_on w ne x =
-          let y = lives_set s.views id v (merged v u) at live refl w (book.seat w) x in
+          let y = lives_set s.views id v (joined_view v u) at live refl w (book.seat w) x in
           let elsewhere : book.seat w ≢ o = λ e. ne (sym x.worker ∙ ap (λ (z : View). z.worker) (some-injective x.view u (sym x.there ∙ ap (get_elem? s.views) e ∙ there))) in
-          record { view = y.view; there = set_else (set s.views id (merged v u)) o (book.seat w) spent_view elsewhere ∙ y.there; live = y.live; worker = y.worker }
+          record { view = y.view; there = set_else (set s.views id (joined_view v u)) o (book.seat w) spent_view elsewhere ∙ y.there; live = y.live; worker = y.worker }
 
       dead_made : (p q : Bool) → (p && (q && false)) ≡ false
       dead_made true true = refl
@@ -174,36 +167,28 @@ module _ (g : PlanValue) (s : Tableau) (m : Machine) (book : Book) (st : Stands 
   -- who tends a block afterwards
   tended : (b : ℕ) → tends g n maker v.worker b ≡ true → (tends g m book.maker v.worker b ≡ true) ⊎ (tends g m book.maker u.worker b ≡ true)
   tended b h = ⊎_elim
-      (λ q. inl (or_less (is_held_by v.worker (m.stage b)) (is_made_by g m book.maker v.worker b) q))
-      (λ q. let p = and_true (nat_lt b (blocks g)) (is_published (m.stage b) && (eqb (book.maker b) v.worker || eqb (book.maker b) u.worker)) (sym (made_zero b) ∙ q) in
-      let r = and_true (is_published (m.stage b)) (eqb (book.maker b) v.worker || eqb (book.maker b) u.worker) p.1 in
+      (λ q. inl (or_left (is_held_by v.worker (m.stage b)) (is_made_by g m book.maker v.worker b) q))
+      (λ q. let p = and_parts (nat_lt b (blocks g)) (is_published (m.stage b) && (eqb (book.maker b) v.worker || eqb (book.maker b) u.worker)) (sym (made_zero b) ∙ q) in
+      let r = and_parts (is_published (m.stage b)) (eqb (book.maker b) v.worker || eqb (book.maker b) u.worker) p.1 in
       ⊎_elim
-      (λ x. inl (or_more (is_held_by v.worker (m.stage b)) (is_made_by g m book.maker v.worker b) (λ i. p.0 i && (r.0 i && x i))))
-      (λ x. inr (or_more (is_held_by u.worker (m.stage b)) (is_made_by g m book.maker u.worker b) (λ i. p.0 i && (r.0 i && x i))))
-      (or_true (eqb (book.maker b) v.worker) (eqb (book.maker b) u.worker) r.1))
-      (or_true (is_held_by v.worker (m.stage b)) (is_made_by g n maker v.worker b) h)
+      (λ x. inl (or_right (is_held_by v.worker (m.stage b)) (is_made_by g m book.maker v.worker b) (λ i. p.0 i && (r.0 i && x i))))
+      (λ x. inr (or_right (is_held_by u.worker (m.stage b)) (is_made_by g m book.maker u.worker b) (λ i. p.0 i && (r.0 i && x i))))
+      (or_cases (eqb (book.maker b) v.worker) (eqb (book.maker b) u.worker) r.1))
+      (or_cases (is_held_by v.worker (m.stage b)) (is_made_by g n maker v.worker b) h)
 
   slots_after : SlotsStand g s.words s.homes after n maker book.value book.drawn
-  slots_after = record {
-    deep = st.slots.deep;
-    code = st.slots.code;
-    home = st.slots.home;
-    empty = st.slots.empty;
-    spent = st.slots.spent;
-    right = st.slots.right;
-    away = λ k in_k d. let r = st.slots.away k in_k d in record { unlaid = r.unlaid; out = r.out; full = r.full; holder = r.holder; held = r.held };
-    notes = all_after (λ j x. Notes g n maker book.value book.drawn x)
-        (let a = st.slots.notes id v at live in let b = st.slots.notes o u there alive in record {
-          picked = λ k x e. ⊎_elim (a.picked k x) (b.picked k x) (noted_either k v.picked u.picked x e);
-          picks = λ k in_k h p. ⊎_elim (λ q. noted_more k v.picked u.picked (a.picks k in_k q p)) (λ q. noted_later k v.picked u.picked (b.picks k in_k q p)) (tended (edge g k).upper h);
-          laid = λ k x e. ⊎_elim (a.laid k x) (b.laid k x) (noted_either k v.laid u.laid x e);
-          lays = λ k in_k h p. ⊎_elim (λ q. noted_more k v.laid u.laid (a.lays k in_k q p)) (λ q. noted_later k v.laid u.laid (b.lays k in_k q p)) (tended (edge g k).lower h);
-          draws = a.draws;
-        })
-        (λ j x a b e lives. let r = st.slots.notes j x e lives in let ne = other_numbers j x a b e lives in
-        let same : (c : ℕ) → tends g n maker x.worker c ≡ tends g m book.maker x.worker c = λ c. ap (λ t. is_held_by x.worker (m.stage c) || (nat_lt c (blocks g) && (is_published (m.stage c) && t))) (made_by_other x.worker c ne.0 ne.1) in
-        record { picked = r.picked; picks = λ k in_k h p. r.picks k in_k (sym (same (edge g k).upper) ∙ h) p; laid = r.laid; lays = λ k in_k h p. r.lays k in_k (sym (same (edge g k).lower) ∙ h) p; draws = r.draws });
-  }
+  slots_after = slots_stay g s.words s.homes s.views after m n.owes book.maker maker book.value book.drawn st.slots
+      (all_after (λ j x. Notes g n maker book.value book.drawn x)
+      (let a = st.slots.notes id v at live in let b = st.slots.notes o u there alive in record {
+        picked = λ k x e. ⊎_elim (a.picked k x) (b.picked k x) (noted_either k v.picked u.picked x e);
+        picks = λ k in_k h p. ⊎_elim (λ q. noted_more k v.picked u.picked (a.picks k in_k q p)) (λ q. noted_later k v.picked u.picked (b.picks k in_k q p)) (tended (edge g k).upper h);
+        laid = λ k x e. ⊎_elim (a.laid k x) (b.laid k x) (noted_either k v.laid u.laid x e);
+        lays = λ k in_k h p. ⊎_elim (λ q. noted_more k v.laid u.laid (a.lays k in_k q p)) (λ q. noted_later k v.laid u.laid (b.lays k in_k q p)) (tended (edge g k).lower h);
+        draws = a.draws;
+      })
+      (λ j x a b e lives. let r = st.slots.notes j x e lives in let ne = other_numbers j x a b e lives in
+      let same : (c : ℕ) → tends g n maker x.worker c ≡ tends g m book.maker x.worker c = λ c. ap (λ t. is_held_by x.worker (m.stage c) || (nat_lt c (blocks g) && (is_published (m.stage c) && t))) (made_by_other x.worker c ne.0 ne.1) in
+      record { picked = r.picked; picks = λ k in_k h p. r.picks k in_k (sym (same (edge g k).upper) ∙ h) p; laid = r.laid; lays = λ k in_k h p. r.lays k in_k (sym (same (edge g k).lower) ∙ h) p; draws = r.draws }))
 
   pub join_stands : Stands g record { words = s.words; homes = s.homes; views = after } n (record book { first = book.first + 1; maker = maker })
   join_stands = record {
@@ -212,9 +197,9 @@ module _ (g : PlanValue) (s : Tableau) (m : Machine) (book : Book) (st : Stands 
     slots = slots_after;
   }
 
-pub joins : (g : PlanValue) (id : ℕ) (v : View) (o : ℕ) (u : View) → v.live ≡ true → v.worker ≡ 0 → u.live ≡ true → u.worker ≡ v.joined → ((b : ℕ) → is_in b u.held ≡ false) → ((b : ℕ) → is_in b u.resumed ≡ false) → Joins (Holds g) id v o u (merged v u) spent_view
+pub joins : (g : PlanValue) (id : ℕ) (v : View) (o : ℕ) (u : View) → v.live ≡ true → v.worker ≡ 0 → u.live ≡ true → u.worker ≡ v.joined → ((b : ℕ) → is_in b u.held ≡ false) → ((b : ℕ) → is_in b u.resumed ≡ false) → Joins (Holds g) id v o u (joined_view v u) spent_view
 joins g id v o u live zeroth alive next no_held no_resumed s h at apart there =
-    ⊎_elim (λ (t : (o ≡ id) × (merged v u ≡ u)). absurd (apart t.0))
+    ⊎_elim (λ (t : (o ≡ id) × (joined_view v u ≡ u)). absurd (apart t.0))
     (λ (t : (o ≢ id) × (get_elem? s.views o ≡ some u)). record {
       machine = take_over 0 u.worker h.machine;
       book = record h.book { first = h.book.first + 1; maker = taken_over h.book.maker u.worker };
@@ -222,4 +207,4 @@ joins g id v o u live zeroth alive next no_held no_resumed s h at apart there =
       laws = a_worker_may_take_over_debts g.layout.edges h.machine 0 u.worker h.laws;
       stands = join_stands g s h.machine h.book h.stands id v at live zeroth o u apart t.1 alive next no_held no_resumed;
     })
-    (at_set s.views id o (merged v u) u there)
+    (at_set s.views id o (joined_view v u) u there)

@@ -1,7 +1,7 @@
 -- A laying keeps the rule, and changes the state as its event does.
 use Rattle.std.proofs.Common.{◌≡◌, ◌≢◌, ℕ, ◌+◌, ◌-◌, ◌*◌, ◌<◌, Bool, true, false, true≢false, eqb, ◌&&◌, List, ◌∷◌, get_or, set, refl, sym, ap, ◌∙◌, subst, ⊎_elim, arith, Option, length-set}
 use Rattle.std.specs.Prelude.{Some, None, is_some, nat_lt}
-use Rattle.std.proofs.lemmas.Bool.{false_from_ne_true}
+use Rattle.std.proofs.lemmas.Bool.{false_from_ne_true, or_cases, or_left, and_parts}
 use mathlib.Core.Option as table
 use mathlib.Core.Option.{some, none}
 use mathlib.Core.Logic.{dite}
@@ -15,21 +15,21 @@ use Rattle.nichols_core.specs.Machine.{Machine, put, is_held_by, is_published, l
 use Rattle.nichols_core.specs.SixLaws.{SixLaws, AllPicked}
 use Rattle.nichols_core.proofs.Stages.{put_is, put_here, put_else, held_by}
 use Rattle.nichols_core.proofs.LawsKept.{core, whole, lay_keeps}
+use Rattle.nichols_core.proofs.Conditions.{true_held}
 use Rattle.nichols_value.specs.Worth.{worth}
 use Rattle.nichols_value.specs.declared.shared.Shared.{Shared}
 use Rattle.nichols_value.specs.declared.value.BlockValue.{BlockValue}
 use Rattle.nichols_shelf.specs.Plan.{PlanValue, IsRightFor}
-use Rattle.nichols_shelf.specs.Lists.{is_in, without, noted}
+use Rattle.nichols_shelf.specs.Lists.{is_in, without, noted_value}
 use Rattle.nichols_shelf.specs.Places.{blocks, edges, edge, edge_place}
 use Rattle.nichols_shelf.specs.Views.{lay_view}
 use Rattle.nichols_shelf.specs.Seats.{is_made_by, tends}
 use Rattle.nichols_shelf.specs.Slots.{edge_code, HasValue, IsDrawn, Notes, SlotsStand}
 use Rattle.nichols_shelf.specs.Stands.{Tableau, Book, Stands, Holds}
-use Rattle.nichols_shelf.specs.Steps.{Mine, value_out}
-use Rattle.nichols_shelf.specs.Steps.{laid as tells_laid}
+use Rattle.nichols_shelf.specs.Steps.{Mine, value_out, lay_step}
 use Rattle.nichols_shelf.specs.declared.view.View.{View}
 use Rattle.nichols_shelf.proofs.Listed.{gone, others_stay, noted_same, noted_other}
-use Rattle.nichols_shelf.proofs.StageTests.{or_less, or_true, and_true, held_self, not_held_by}
+use Rattle.nichols_shelf.proofs.StageTests.{not_held_by}
 use Rattle.nichols_shelf.proofs.Edges.{placed}
 use Rattle.nichols_shelf.proofs.EdgeWords.{code_here, code_else, words_same, seats_same}
 use Rattle.nichols_shelf.proofs.SeatsKept.{other_worker}
@@ -37,7 +37,7 @@ use Rattle.nichols_shelf.proofs.SeatsKept.{other_worker}
 module _ (g : PlanValue) (rules : IsLayout g.layout) (s : Tableau) (m : Machine) (laws : SixLaws g.layout.edges m) (book : Book) (st : Stands g s m book)
     (id : ℕ) (v : View) (at : get_elem? s.views id ≡ some v) (live : v.live ≡ true) (k : ℕ) (in_k : k < edges g) (lists : is_in (edge g k).lower v.held ≡ true)
     (draws : is_in k v.drawn ≡ true) (shared : Shared) (right : IsRightFor g (edge g k).lower (worth shared))
-    (equal : (j : ℕ) (y : BlockValue) → j < edges g → (edge g j).lower ≡ (edge g k).lower → noted j v.laid ≡ Some y → y ≡ worth shared) where
+    (equal : (j : ℕ) (y : BlockValue) → j < edges g → (edge g j).lower ≡ (edge g k).lower → noted_value j v.laid ≡ Some y → y ≡ worth shared) where
   abbrev low : ℕ
   low = (edge g k).lower
 
@@ -69,10 +69,10 @@ module _ (g : PlanValue) (rules : IsLayout g.layout) (s : Tableau) (m : Machine)
   held = held_by v.worker (m.stage low) (sym ((st.seats.knows id v at live).held low) ∙ lists)
 
   is_held : is_held_by v.worker (m.stage low) ≡ true
-  is_held = held_self v.worker (m.stage low) held
+  is_held = true_held v.worker (m.stage low) held
 
   was_drawn : book.drawn k ≡ true
-  was_drawn = (and_true (book.drawn k) (is_held_by v.worker (m.stage low)) (sym (notes.draws k in_k) ∙ draws)).0
+  was_drawn = (and_parts (book.drawn k) (is_held_by v.worker (m.stage low)) (sym (notes.draws k in_k) ∙ draws)).0
 
   abbrev away : IsDrawn g s.homes m k
   away = st.slots.away k in_k was_drawn
@@ -93,13 +93,10 @@ module _ (g : PlanValue) (rules : IsLayout g.layout) (s : Tableau) (m : Machine)
   -- the value of a block with a laid edge stays
   value_stays : (j : ℕ) → j < edges g → m.laid j ≡ true → value (edge g j).lower ≡ book.value (edge g j).lower
   value_stays j in_j h = dite (ℕ_discrete (edge g j).lower low)
-      (λ q. let t : tends g m book.maker v.worker (edge g j).lower ≡ true = or_less (is_held_by v.worker (m.stage (edge g j).lower)) (is_made_by g m book.maker v.worker (edge g j).lower) (held_self v.worker (m.stage (edge g j).lower) (ap m.stage q ∙ held)) in
-      let y = value_of (noted j v.laid) (notes.lays j in_j t h) in
+      (λ q. let t : tends g m book.maker v.worker (edge g j).lower ≡ true = or_left (is_held_by v.worker (m.stage (edge g j).lower)) (is_made_by g m book.maker v.worker (edge g j).lower) (true_held v.worker (m.stage (edge g j).lower) (ap m.stage q ∙ held)) in
+      let y = value_of (noted_value j v.laid) (notes.lays j in_j t h) in
       put_here book.value low x (edge g j).lower q ∙ (sym (equal j y.0 in_j q y.1) ∙ (notes.laid j y.0 y.1).2))
       (λ ne. put_else book.value low x (edge g j).lower ne)
-
-  laid_here : n.laid k ≡ true
-  laid_here = put_here m.laid k true k refl
 
   laid_more : (j : ℕ) → m.laid j ≡ true → n.laid j ≡ true
   laid_more j h = put_is m.laid k true j (λ t. t ≡ true) (λ _. refl) (λ _. h)
@@ -126,11 +123,11 @@ module _ (g : PlanValue) (rules : IsLayout g.layout) (s : Tableau) (m : Machine)
     picked = λ j y h. let p = notes.picked j y h in (p.0, p.1, p.2 ∙ sym (value_stays j p.0 (laws.picked j p.0 p.1).0));
     picks = notes.picks;
     laid = λ j y h. dite (ℕ_discrete j k)
-        (λ q. let here : x ≡ y = some_same x y (sym (noted_same k x v.laid) ∙ (ap (λ z. noted z ((k, x) ∷ v.laid)) (sym q) ∙ h)) in
+        (λ q. let here : x ≡ y = some_same x y (sym (noted_same k x v.laid) ∙ (ap (λ z. noted_value z ((k, x) ∷ v.laid)) (sym q) ∙ h)) in
         (subst (λ z. z < edges g) (sym q) in_k, put_here m.laid k true j q, sym here ∙ (sym value_here ∙ ap (λ z. value (edge g z).lower) (sym q))))
         (λ ne. let p = notes.laid j y (sym (noted_other j k x v.laid ne) ∙ h) in (p.0, laid_more j p.1, p.2 ∙ sym (value_stays j p.0 p.1)));
     lays = λ j in_j t h. dite (ℕ_discrete j k)
-        (λ q. ap (λ z. is_some (noted z ((k, x) ∷ v.laid))) q ∙ ap is_some (noted_same k x v.laid))
+        (λ q. ap (λ z. is_some (noted_value z ((k, x) ∷ v.laid))) q ∙ ap is_some (noted_same k x v.laid))
         (λ ne. ap is_some (noted_other j k x v.laid ne) ∙ notes.lays j in_j t (sym (put_else m.laid k true j ne) ∙ h));
     draws = λ j in_j. dite (ℕ_discrete j k)
         (λ q. subst (λ z. is_in z (without k v.drawn) ≡ (drawn z && is_held_by v.worker (m.stage (edge g z).lower))) (sym q) (gone k v.drawn ∙ ap (λ t. t && is_held_by v.worker (m.stage low)) (sym (put_here book.drawn k false k refl))))
@@ -144,9 +141,9 @@ module _ (g : PlanValue) (rules : IsLayout g.layout) (s : Tableau) (m : Machine)
   untended : (u : ℕ) → u ≢ v.worker → tends g m book.maker u low ≡ true → ⊥
   untended u ne t = ⊎_elim
       (λ q. true≢false (sym q ∙ not_held_by v.worker u (m.stage low) held ne))
-      (λ q. let p = (and_true (is_published (m.stage low)) (eqb (book.maker low) u) (and_true (nat_lt low (blocks g)) (is_published (m.stage low) && eqb (book.maker low) u) q).1).0 in
+      (λ q. let p = (and_parts (is_published (m.stage low)) (eqb (book.maker low) u) (and_parts (nat_lt low (blocks g)) (is_published (m.stage low) && eqb (book.maker low) u) q).1).0 in
       true≢false (sym p ∙ ap is_published held))
-      (or_true (is_held_by u (m.stage low)) (is_made_by g m book.maker u low) t)
+      (or_cases (is_held_by u (m.stage low)) (is_made_by g m book.maker u low) t)
 
   slots_after : SlotsStand g (set s.words (edge_place g k) 2) homes (set s.views id v') n book.maker value drawn
   slots_after = record {
@@ -185,8 +182,8 @@ module _ (g : PlanValue) (rules : IsLayout g.layout) (s : Tableau) (m : Machine)
 
 pub lay_allowed : (g : PlanValue) (slots id : ℕ) (me : Mine) (k : ℕ) (shared : Shared) (others : List (ℕ × Option Shared)) → me.1 ≡ (k, Some shared) ∷ others → k < edges g → me.0.live ≡ true → is_in (edge g k).lower me.0.held ≡ true
     → is_in k me.0.drawn ≡ true → IsRightFor g (edge g k).lower (worth shared)
-    → ((j : ℕ) (y : BlockValue) → j < edges g → (edge g j).lower ≡ (edge g k).lower → noted j me.0.laid ≡ Some y → y ≡ worth shared)
-    → Allows (Holds g) slots id me (edge_place g k) (λ _. 2) (tells_laid (step slots (edge_place g k) 2 0 none) me)
+    → ((j : ℕ) (y : BlockValue) → j < edges g → (edge g j).lower ≡ (edge g k).lower → noted_value j me.0.laid ≡ Some y → y ≡ worth shared)
+    → Allows (Holds g) slots id me (edge_place g k) (λ _. 2) (lay_step (step slots (edge_place g k) 2 0 none) me)
 lay_allowed g slots id me k shared others out in_k live lists draws right equal s h deep at word =
     let x = get_or s.words (edge_place g k) 0 in
     let kn = h.stands.seats.knows id me.0 at live in

@@ -24,6 +24,7 @@ pub mod Joined
 pub mod JoinedAll
 pub mod Opened
 pub mod Ending
+pub mod OneState
 pub mod ShelfLaws
 pub mod Mirrored
 pub mod Marking

@@ -2,12 +2,13 @@
 use Rattle.std.proofs.Common.{◌≡◌, ◌≢◌, ◌⊎◌, ℕ, zero, suc, ◌+◌, ◌<◌, Bool, true, false, true≢false, cond, eqb, ltb, lt-ltb, ◌||◌, List, [], ◌∷◌, ◌++◌, length, get_or, refl, sym, ap, ◌∙◌, inl, inr, ⊎_elim, eq-eqb, ne_eqb, arith, Some}
 use Rattle.std.specs.Prelude.{is_some}
 use Rattle.std.proofs.lemmas.Bool.{ltb-true, false_from_ne_true}
+use Rattle.std.proofs.Math.Bool.{or_assoc}
 use mathlib.Core.Option.{some, some-injective, some-ne-none}
 use mathlib.Core.Logic.{dite}
 use native.Mathlib.Decide.{ℕ_discrete}
 use lib.ListN.{get_elem?}
 use Rattle.nichols_value.specs.declared.value.BlockValue.{BlockValue}
-use Rattle.nichols_shelf.specs.Lists.{is_in, times_in, without, below, noted}
+use Rattle.nichols_shelf.specs.Lists.{is_in, times_in, without, below, noted_value}
 
 -- whether a number stands in a list without another, or in two lists
 pub is_in-without : (c b : ℕ) (xs : List ℕ) → is_in c (without b xs) ≡ cond (eqb c b) false (is_in c xs)
@@ -22,13 +23,9 @@ gone b xs = is_in-without b b xs ∙ ap (λ t. cond t false (is_in b xs)) (eq-eq
 pub others_stay : (c b : ℕ) (xs : List ℕ) → c ≢ b → is_in c (without b xs) ≡ is_in c xs
 others_stay c b xs n = is_in-without c b xs ∙ ap (λ t. cond t false (is_in c xs)) (ne_eqb c b n)
 
-or_assoc : (p q r : Bool) → (p || (q || r)) ≡ ((p || q) || r)
-or_assoc true q r = refl
-or_assoc false q r = refl
-
 pub is_in-append : (b : ℕ) (xs ys : List ℕ) → is_in b (xs ++ ys) ≡ (is_in b xs || is_in b ys)
 is_in-append b [] ys = refl
-is_in-append b (x ∷ xs) ys = ap (λ t. eqb b x || t) (is_in-append b xs ys) ∙ or_assoc (eqb b x) (is_in b xs) (is_in b ys)
+is_in-append b (x ∷ xs) ys = ap (λ t. eqb b x || t) (is_in-append b xs ys) ∙ sym (or_assoc (eqb b x) (is_in b xs) (is_in b ys))
 
 pub is_in-below : (b n : ℕ) → is_in b (below n) ≡ ltb b n
 is_in-below b zero = sym (false_from_ne_true (ltb b 0) (λ e. let h = ltb-true b 0 e in omega arith))
@@ -51,33 +48,33 @@ pub times_in-snoc_other : (c b : ℕ) (xs : List ℕ) → c ≢ b → times_in c
 times_in-snoc_other c b xs n = times_in-append c xs (b ∷ []) ∙ (ap (λ t. times_in c xs + (cond t 1 0 + 0)) (ne_eqb c b n) ∙ omega arith)
 
 -- what is noted of an edge at the head of a list, and in two lists
-pub noted_same : (k : ℕ) (x : BlockValue) (xs : List (ℕ × BlockValue)) → noted k ((k, x) ∷ xs) ≡ Some x
-noted_same k x xs = ap (λ t. cond t (Some x) (noted k xs)) (eq-eqb k k refl)
+pub noted_same : (k : ℕ) (x : BlockValue) (xs : List (ℕ × BlockValue)) → noted_value k ((k, x) ∷ xs) ≡ Some x
+noted_same k x xs = ap (λ t. cond t (Some x) (noted_value k xs)) (eq-eqb k k refl)
 
-pub noted_other : (j k : ℕ) (x : BlockValue) (xs : List (ℕ × BlockValue)) → j ≢ k → noted j ((k, x) ∷ xs) ≡ noted j xs
-noted_other j k x xs n = ap (λ t. cond t (Some x) (noted j xs)) (ne_eqb j k n)
+pub noted_other : (j k : ℕ) (x : BlockValue) (xs : List (ℕ × BlockValue)) → j ≢ k → noted_value j ((k, x) ∷ xs) ≡ noted_value j xs
+noted_other j k x xs n = ap (λ t. cond t (Some x) (noted_value j xs)) (ne_eqb j k n)
 
-pub noted_more : (k : ℕ) (xs ys : List (ℕ × BlockValue)) → is_some (noted k xs) ≡ true → is_some (noted k (xs ++ ys)) ≡ true
+pub noted_more : (k : ℕ) (xs ys : List (ℕ × BlockValue)) → is_some (noted_value k xs) ≡ true → is_some (noted_value k (xs ++ ys)) ≡ true
 noted_more k [] ys h = absurd (true≢false (sym h))
 noted_more k (x ∷ xs) ys h = two (eqb k x.0) h (noted_more k xs ys)
   where
-    two : (t : Bool) → is_some (cond t (Some x.1) (noted k xs)) ≡ true → (is_some (noted k xs) ≡ true → is_some (noted k (xs ++ ys)) ≡ true) → is_some (cond t (Some x.1) (noted k (xs ++ ys))) ≡ true
+    two : (t : Bool) → is_some (cond t (Some x.1) (noted_value k xs)) ≡ true → (is_some (noted_value k xs) ≡ true → is_some (noted_value k (xs ++ ys)) ≡ true) → is_some (cond t (Some x.1) (noted_value k (xs ++ ys))) ≡ true
     two true h more = refl
     two false h more = more h
 
-pub noted_later : (k : ℕ) (xs ys : List (ℕ × BlockValue)) → is_some (noted k ys) ≡ true → is_some (noted k (xs ++ ys)) ≡ true
+pub noted_later : (k : ℕ) (xs ys : List (ℕ × BlockValue)) → is_some (noted_value k ys) ≡ true → is_some (noted_value k (xs ++ ys)) ≡ true
 noted_later k [] ys h = h
 noted_later k (x ∷ xs) ys h = two (eqb k x.0) (noted_later k xs ys h)
   where
-    two : (t : Bool) → is_some (noted k (xs ++ ys)) ≡ true → is_some (cond t (Some x.1) (noted k (xs ++ ys))) ≡ true
+    two : (t : Bool) → is_some (noted_value k (xs ++ ys)) ≡ true → is_some (cond t (Some x.1) (noted_value k (xs ++ ys))) ≡ true
     two true h = refl
     two false h = h
 
-pub noted_either : (k : ℕ) (xs ys : List (ℕ × BlockValue)) (v : BlockValue) → noted k (xs ++ ys) ≡ Some v → (noted k xs ≡ Some v) ⊎ (noted k ys ≡ Some v)
+pub noted_either : (k : ℕ) (xs ys : List (ℕ × BlockValue)) (v : BlockValue) → noted_value k (xs ++ ys) ≡ Some v → (noted_value k xs ≡ Some v) ⊎ (noted_value k ys ≡ Some v)
 noted_either k [] ys v h = inr h
 noted_either k (x ∷ xs) ys v h = two (eqb k x.0) h (noted_either k xs ys v)
   where
-    two : (t : Bool) → cond t (Some x.1) (noted k (xs ++ ys)) ≡ Some v → (noted k (xs ++ ys) ≡ Some v → (noted k xs ≡ Some v) ⊎ (noted k ys ≡ Some v)) → (cond t (Some x.1) (noted k xs) ≡ Some v) ⊎ (noted k ys ≡ Some v)
+    two : (t : Bool) → cond t (Some x.1) (noted_value k (xs ++ ys)) ≡ Some v → (noted_value k (xs ++ ys) ≡ Some v → (noted_value k xs ≡ Some v) ⊎ (noted_value k ys ≡ Some v)) → (cond t (Some x.1) (noted_value k xs) ≡ Some v) ⊎ (noted_value k ys ≡ Some v)
     two true h rest = inl h
     two false h rest = rest h
 

@@ -3,15 +3,16 @@ use Rattle.std.proofs.Common.{◌≡◌, ℕ, zero, suc, ◌-◌, ◌<◌, Bool,
 use Rattle.std.specs.Int.{bit_at}
 use Rattle.std.specs.Prelude.{Some, None}
 use Rattle.std.proofs.lemmas.Nat.Bits.{bit_at-zero}
-use Rattle.std.proofs.lemmas.Bool.{eqb-true}
+use Rattle.std.proofs.lemmas.Bool.{eqb-true, or_cases, and_parts}
 use mathlib.Core.Option.{some, some-injective, some-ne-none}
 use lib.ListN.{get_elem?, length-replicate}
 use Rattle.atomic_table.specs.Table.{opening}
 use Rattle.nichols_core.specs.Layout.{IsLayout}
-use Rattle.nichols_core.specs.declared.stage.Stage.TheVariants.{Ready, Parked, Published}
+use Rattle.nichols_core.specs.declared.stage.Stage.TheVariants.{Ready, Published}
 use Rattle.nichols_core.specs.Machine.{is_held_by, is_resumed_by, is_published}
 use Rattle.nichols_core.specs.Runs.{start, one_if}
-use Rattle.nichols_core.proofs.RunsKept.{start_meets_laws}
+use Rattle.nichols_core.proofs.RunsKept.{start_meets_laws, start_parked}
+use Rattle.nichols_core.proofs.MarksAtStart.{everywhere}
 use Rattle.nichols_value.specs.declared.shared.Shared.{Shared}
 use Rattle.nichols_value.specs.declared.value.BlockValue.{BlockValue}
 use Rattle.nichols_value.specs.declared.value.BlockValue.TheVariants.{Starved}
@@ -24,12 +25,6 @@ use Rattle.nichols_shelf.specs.Slots.{Notes}
 use Rattle.nichols_shelf.specs.Stands.{Holds}
 use Rattle.nichols_shelf.specs.declared.view.View.{View}
 use Rattle.nichols_shelf.proofs.Listed.{is_in-below}
-use Rattle.nichols_shelf.proofs.StageTests.{or_true, and_true}
-
-zeros : (n i : ℕ) → get_or (replicate {A = ℕ} n 0) i 0 ≡ 0
-zeros zero i = refl
-zeros (suc n) zero = refl
-zeros (suc n) (suc i) = zeros n i
 
 vacant_at : (n k : ℕ) → k < n → get_elem? (map some (replicate {A = Option Shared} n None)) k ≡ some (some None)
 vacant_at zero k h = absurd (omega arith)
@@ -49,10 +44,6 @@ not_resumed : (t : Bool) (w : ℕ) → is_resumed_by w (cond t Ready Published) 
 not_resumed true w = refl
 not_resumed false w = refl
 
-not_parked : (t : Bool) (x : ℕ) → cond t Ready Published ≡ Parked x → ⊥
-not_parked true x e = cc
-not_parked false x e = cc
-
 not_made : (t r : Bool) → (t && (is_published (cond t Ready Published) && r)) ≡ false
 not_made true r = refl
 not_made false r = refl
@@ -68,7 +59,7 @@ opens g count words rules deep is = record {
       wide = ap length is ∙ length-replicate (all_words g) 0;
       desk = λ b inside. zero_at (desk_place b) ∙ sym (ap (λ t. desk_word (cond t Ready Published)) (lt-ltb b (blocks g) inside));
       done = λ b inside. ap (λ w. bit_at w 63) (zero_at (wait_place g b)) ∙ (bit_at-zero 63 ∙ sym (ap (λ t. done_bit (cond t Ready Published)) (lt-ltb b (blocks g) inside)));
-      parked = λ b low p. absurd (not_parked (ltb b (blocks g)) low p);
+      parked = λ b low p. absurd (start_parked (ltb b (blocks g)) low p);
       waits = λ k in_k _ bit. absurd (no_bit (wait_place g (edge g k).lower) ((edge g k).letter - 1) bit);
       lettered = λ low i in_low last bit. absurd (no_bit (wait_place g low) i bit);
     };
@@ -107,7 +98,7 @@ opens g count words rules deep is = record {
 }
   where
     zero_at : (i : ℕ) → get_or words i 0 ≡ 0
-    zero_at i = ap (λ ws. get_or ws i 0) is ∙ zeros (all_words g) i
+    zero_at i = ap (λ ws. get_or ws i 0) is ∙ everywhere (all_words g) i 0
 
     nought_is_one : (x : ℕ) → x ≡ 0 → x ≡ 1 → ⊥
     nought_is_one x a b = omega arith
@@ -125,8 +116,8 @@ opens g count words rules deep is = record {
     who : (w b : ℕ) → concerns g (start (blocks g)) (λ _. 0) w b ≡ true → w ≡ 0
     who w b h = ⊎_elim (λ q. absurd (true≢false (sym q ∙ not_held (ltb b (blocks g)) w)))
         (λ r. ⊎_elim (λ q. absurd (true≢false (sym q ∙ not_resumed (ltb b (blocks g)) w)))
-        (λ t. ⊎_elim (λ q. eqb-true w 0 (and_true (eqb w 0) (ltb b (blocks g)) q).0)
+        (λ t. ⊎_elim (λ q. eqb-true w 0 (and_parts (eqb w 0) (ltb b (blocks g)) q).0)
         (λ q. absurd (true≢false (sym q ∙ not_made (ltb b (blocks g)) (eqb 0 w))))
-        (or_true (eqb w 0 && ltb b (blocks g)) (is_made_by g (start (blocks g)) (λ _. 0) w b) t))
-        (or_true (is_resumed_by w (cond (ltb b (blocks g)) Ready Published)) ((eqb w 0 && ltb b (blocks g)) || is_made_by g (start (blocks g)) (λ _. 0) w b) r))
-        (or_true (is_held_by w (cond (ltb b (blocks g)) Ready Published)) (is_resumed_by w (cond (ltb b (blocks g)) Ready Published) || ((eqb w 0 && ltb b (blocks g)) || is_made_by g (start (blocks g)) (λ _. 0) w b)) h)
+        (or_cases (eqb w 0 && ltb b (blocks g)) (is_made_by g (start (blocks g)) (λ _. 0) w b) t))
+        (or_cases (is_resumed_by w (cond (ltb b (blocks g)) Ready Published)) ((eqb w 0 && ltb b (blocks g)) || is_made_by g (start (blocks g)) (λ _. 0) w b) r))
+        (or_cases (is_held_by w (cond (ltb b (blocks g)) Ready Published)) (is_resumed_by w (cond (ltb b (blocks g)) Ready Published) || ((eqb w 0 && ltb b (blocks g)) || is_made_by g (start (blocks g)) (λ _. 0) w b)) h)

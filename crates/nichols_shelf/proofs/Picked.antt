@@ -1,7 +1,7 @@
 -- A pick keeps the rule, and changes the state as its event does.
 use Rattle.std.proofs.Common.{◌≡◌, ◌≢◌, ℕ, ◌+◌, ◌-◌, ◌*◌, ◌<◌, true, false, true≢false, eqb, ◌&&◌, ◌∷◌, get_or, set, refl, sym, ap, ◌∙◌, subst, ⊎_elim, arith, length-set}
 use Rattle.std.specs.Prelude.{Some, None, is_some, nat_lt}
-use Rattle.std.proofs.lemmas.Bool.{false_from_ne_true}
+use Rattle.std.proofs.lemmas.Bool.{false_from_ne_true, or_cases, or_left, and_parts}
 use mathlib.Core.Option.{some, none, some-injective, some-ne-none}
 use mathlib.Core.Logic.{dite}
 use native.Mathlib.Decide.{ℕ_discrete}
@@ -14,28 +14,28 @@ use Rattle.nichols_core.specs.Machine.{Machine, is_held_by, is_published, pick}
 use Rattle.nichols_core.specs.SixLaws.{SixLaws}
 use Rattle.nichols_core.proofs.Stages.{put_is, put_here, put_else, held_by}
 use Rattle.nichols_core.proofs.LawsKept.{core, whole, pick_keeps}
+use Rattle.nichols_core.proofs.Conditions.{true_held}
 use Rattle.nichols_value.specs.Worth.{worth}
 use Rattle.nichols_value.specs.declared.shared.Shared.{Shared}
 use Rattle.nichols_value.specs.declared.value.BlockValue.{BlockValue}
 use Rattle.nichols_shelf.specs.Plan.{PlanValue, IsRightFor}
-use Rattle.nichols_shelf.specs.Lists.{is_in, noted}
+use Rattle.nichols_shelf.specs.Lists.{is_in, noted_value}
 use Rattle.nichols_shelf.specs.Places.{blocks, edges, edge, edge_place}
 use Rattle.nichols_shelf.specs.Views.{pick_view}
 use Rattle.nichols_shelf.specs.Seats.{is_made_by, tends}
 use Rattle.nichols_shelf.specs.Slots.{edge_code, HasValue, Notes, SlotsStand}
 use Rattle.nichols_shelf.specs.Stands.{Tableau, Book, Stands, Holds}
-use Rattle.nichols_shelf.specs.Steps.{Mine}
-use Rattle.nichols_shelf.specs.Steps.{picked as tells_picked}
+use Rattle.nichols_shelf.specs.Steps.{Mine, pick_step}
 use Rattle.nichols_shelf.specs.declared.view.View.{View}
 use Rattle.nichols_shelf.proofs.Listed.{noted_same, noted_other}
-use Rattle.nichols_shelf.proofs.StageTests.{or_less, or_true, and_true, held_self, not_held_by}
+use Rattle.nichols_shelf.proofs.StageTests.{not_held_by}
 use Rattle.nichols_shelf.proofs.Edges.{placed}
 use Rattle.nichols_shelf.proofs.EdgeWords.{code_here, code_else, words_same, seats_same}
 use Rattle.nichols_shelf.proofs.SeatsKept.{other_worker}
 
 module _ (g : PlanValue) (rules : IsLayout g.layout) (s : Tableau) (m : Machine) (laws : SixLaws g.layout.edges m) (book : Book) (st : Stands g s m book)
     (id : ℕ) (v : View) (at : get_elem? s.views id ≡ some v) (live : v.live ≡ true) (k : ℕ) (in_k : k < edges g) (lists : is_in (edge g k).upper v.held ≡ true)
-    (knows : is_in (edge g k).lower v.known ≡ true) (not_picked : noted k v.picked ≡ None) where
+    (knows : is_in (edge g k).lower v.known ≡ true) (not_picked : noted_value k v.picked ≡ None) where
   abbrev up : ℕ
   up = (edge g k).upper
 
@@ -55,7 +55,7 @@ module _ (g : PlanValue) (rules : IsLayout g.layout) (s : Tableau) (m : Machine)
   held = held_by v.worker (m.stage up) (sym ((st.seats.knows id v at live).held up) ∙ lists)
 
   is_held : is_held_by v.worker (m.stage up) ≡ true
-  is_held = held_self v.worker (m.stage up) held
+  is_held = true_held v.worker (m.stage up) held
 
   pub low_published : m.stage low ≡ Published
   low_published = (st.seats.knows id v at live).known low knows
@@ -64,7 +64,7 @@ module _ (g : PlanValue) (rules : IsLayout g.layout) (s : Tableau) (m : Machine)
   is_laid = (laws.published low low_published).1 k in_k refl
 
   pub unpicked : m.picked k ≡ false
-  unpicked = false_from_ne_true (m.picked k) (λ p. true≢false (sym (notes.picks k in_k (or_less (is_held_by v.worker (m.stage up)) (is_made_by g m book.maker v.worker up) is_held) p) ∙ ap is_some not_picked))
+  unpicked = false_from_ne_true (m.picked k) (λ p. true≢false (sym (notes.picks k in_k (or_left (is_held_by v.worker (m.stage up)) (is_made_by g m book.maker v.worker up) is_held) p) ∙ ap is_some not_picked))
 
   -- a drawn edge isn't laid
   undrawn : book.drawn k ≡ false
@@ -88,11 +88,11 @@ module _ (g : PlanValue) (rules : IsLayout g.layout) (s : Tableau) (m : Machine)
   my_notes : Notes g n book.maker book.value book.drawn v'
   my_notes = record {
     picked = λ j y h. dite (ℕ_discrete j k)
-        (λ q. let here : worth shared ≡ y = some_same (worth shared) y (sym (noted_same k (worth shared) v.picked) ∙ (ap (λ z. noted z ((k, worth shared) ∷ v.picked)) (sym q) ∙ h)) in
+        (λ q. let here : worth shared ≡ y = some_same (worth shared) y (sym (noted_same k (worth shared) v.picked) ∙ (ap (λ z. noted_value z ((k, worth shared) ∷ v.picked)) (sym q) ∙ h)) in
         (subst (λ z. z < edges g) (sym q) in_k, put_here m.picked k true j q, sym here ∙ at_home.worth_is ∙ ap (λ z. book.value (edge g z).lower) (sym q)))
         (λ ne. let p = notes.picked j y (sym (noted_other j k (worth shared) v.picked ne) ∙ h) in (p.0, more j p.1, p.2));
     picks = λ j in_j t h. dite (ℕ_discrete j k)
-        (λ q. ap (λ z. is_some (noted z ((k, worth shared) ∷ v.picked))) q ∙ ap is_some (noted_same k (worth shared) v.picked))
+        (λ q. ap (λ z. is_some (noted_value z ((k, worth shared) ∷ v.picked))) q ∙ ap is_some (noted_same k (worth shared) v.picked))
         (λ ne. ap is_some (noted_other j k (worth shared) v.picked ne) ∙ notes.picks j in_j t (sym (put_else m.picked k true j ne) ∙ h));
     laid = notes.laid;
     lays = notes.lays;
@@ -105,9 +105,9 @@ module _ (g : PlanValue) (rules : IsLayout g.layout) (s : Tableau) (m : Machine)
   untended : (u : ℕ) → u ≢ v.worker → tends g m book.maker u up ≡ true → ⊥
   untended u ne t = ⊎_elim
       (λ q. true≢false (sym q ∙ not_held_by v.worker u (m.stage up) held ne))
-      (λ q. let p = (and_true (is_published (m.stage up)) (eqb (book.maker up) u) (and_true (nat_lt up (blocks g)) (is_published (m.stage up) && eqb (book.maker up) u) q).1).0 in
+      (λ q. let p = (and_parts (is_published (m.stage up)) (eqb (book.maker up) u) (and_parts (nat_lt up (blocks g)) (is_published (m.stage up) && eqb (book.maker up) u) q).1).0 in
       true≢false (sym p ∙ ap is_published held))
-      (or_true (is_held_by u (m.stage up)) (is_made_by g m book.maker u up) t)
+      (or_cases (is_held_by u (m.stage up)) (is_made_by g m book.maker u up) t)
 
   notes_of : (u : View) → (tends g m book.maker u.worker up ≡ true → ⊥) → Notes g m book.maker book.value book.drawn u → Notes g n book.maker book.value book.drawn u
   notes_of u never r = record {
@@ -155,8 +155,8 @@ module _ (g : PlanValue) (rules : IsLayout g.layout) (s : Tableau) (m : Machine)
   }
 
 pub pick_allowed : (g : PlanValue) (slots id : ℕ) (me : Mine) (k : ℕ) → k < edges g → me.0.live ≡ true → is_in (edge g k).upper me.0.held ≡ true
-    → is_in (edge g k).lower me.0.known ≡ true → noted k me.0.picked ≡ None
-    → Allows (Holds g) slots id me (edge_place g k) (λ _. 3) (tells_picked (step slots (edge_place g k) 3 0 none) me)
+    → is_in (edge g k).lower me.0.known ≡ true → noted_value k me.0.picked ≡ None
+    → Allows (Holds g) slots id me (edge_place g k) (λ _. 3) (pick_step (step slots (edge_place g k) 3 0 none) me)
 pick_allowed g slots id me k in_k live lists knows not_picked s h deep at word =
     let x = get_or s.words (edge_place g k) 0 in
     let kn = h.stands.seats.knows id me.0 at live in

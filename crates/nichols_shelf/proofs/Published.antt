@@ -2,6 +2,7 @@
 use Rattle.std.proofs.Common.{not, ◌≡◌, ◌≢◌, ℕ, ◌+◌, ◌-◌, ◌<◌, ◌^◌, Bool, true, false, true≢false, cond, eqb, ◌&&◌, ◌||◌, List, [], ◌∷◌, ◌++◌, length, get_or, set, refl, sym, ap, ◌∙◌, subst, inl, ⊎_elim, eq-eqb, ne_eqb, lt-ltb, arith, Option, length-set, get_or-set_other, get_or-set_same}
 use Rattle.std.specs.Int.{bit_at}
 use Rattle.std.specs.Prelude.{bit_or, nat_lt, Some, None, is_some}
+use Rattle.std.proofs.lemmas.Bool.{or_cases, or_right, or_left}
 use mathlib.Core.Option as table
 use mathlib.Core.Option.{some, none, some-injective}
 use mathlib.Core.Logic.{dite}
@@ -9,6 +10,7 @@ use native.Mathlib.Decide.{ℕ_discrete}
 use lib.ListN.{get_elem?}
 use Rattle.atomic_table.proofs.Lists.{at_set}
 use Rattle.atomic_table.specs.Table.{step, homes_after, Allows}
+use Rattle.nichols_tensor.proofs.Tests.{same_answer}
 use Rattle.nichols_core.specs.declared.stage.Stage.{Stage}
 use Rattle.nichols_core.specs.declared.stage.Stage.TheVariants.{Held, Parked, Resumed, Published}
 use Rattle.nichols_core.specs.Machine.{Machine, put, publish, stage_after_publication, is_held_by, is_resumed_by, is_published, is_parked_on}
@@ -16,21 +18,21 @@ use Rattle.nichols_core.specs.SixLaws.{SixLaws, AllPicked, AllLaid}
 use Rattle.nichols_core.specs.Runs.{one_if}
 use Rattle.nichols_core.proofs.Stages.{put_is, put_here, put_else, held_by, resumed_parked}
 use Rattle.nichols_core.proofs.LawsKept.{core, whole, publish_keeps}
+use Rattle.nichols_core.proofs.Conditions.{true_held}
 use Rattle.nichols_value.specs.declared.shared.Shared.{Shared}
 use Rattle.nichols_value.specs.declared.value.BlockValue.{BlockValue}
 use Rattle.nichols_shelf.specs.Plan.{PlanValue}
-use Rattle.nichols_shelf.specs.Lists.{is_in, times_in, without, noted}
+use Rattle.nichols_shelf.specs.Lists.{is_in, times_in, without, noted_value}
 use Rattle.nichols_shelf.specs.Places.{blocks, edges, edge, desk_place, wait_place, edge_place}
 use Rattle.nichols_shelf.specs.Views.{askers, publish_view}
 use Rattle.nichols_shelf.specs.Words.{desk_word, done_bit, IsMarked, HasLetter, WordsStand}
 use Rattle.nichols_shelf.specs.Seats.{is_made_by, Knows}
 use Rattle.nichols_shelf.specs.Stands.{Tableau, Book, Stands, Holds}
-use Rattle.nichols_shelf.specs.Steps.{Mine}
-use Rattle.nichols_shelf.specs.Steps.{published as tells_published}
+use Rattle.nichols_shelf.specs.Steps.{Mine, publish_step}
 use Rattle.nichols_shelf.specs.Out.{are_picked}
 use Rattle.nichols_shelf.specs.declared.view.View.{View}
 use Rattle.nichols_shelf.proofs.Listed.{gone, others_stay, is_in-append, times_in-snoc_same, times_in-snoc_other}
-use Rattle.nichols_shelf.proofs.StageTests.{same_bool, or_true, or_less, or_more, held_self, not_held_by, held_published, resumed_theirs, resumed_mine, published_published, desk_published, done_published, parked_on}
+use Rattle.nichols_shelf.proofs.StageTests.{not_held_by, held_published, resumed_theirs, resumed_mine, published_published, desk_published, done_published, parked_on}
 use Rattle.nichols_shelf.proofs.Bits.{bit_same, bit_other}
 use Rattle.nichols_shelf.proofs.Askers.{asks, asked_for}
 use Rattle.nichols_shelf.proofs.Picks.{one_picked}
@@ -50,8 +52,8 @@ others_made false q = refl
 
 module _ (g : PlanValue) (s : Tableau) (m : Machine) (laws : SixLaws g.layout.edges m) (book : Book) (st : Stands g s m book)
     (id : ℕ) (v : View) (at : get_elem? s.views id ≡ some v) (live : v.live ≡ true) (b : ℕ) (inside : b < blocks g) (lists : is_in b v.held ≡ true)
-    (all_picked : (k : ℕ) → k < edges g → (edge g k).upper ≡ b → is_some (noted k v.picked) ≡ true)
-    (all_laid : (k : ℕ) → k < edges g → (edge g k).lower ≡ b → is_some (noted k v.laid) ≡ true)
+    (all_picked : (k : ℕ) → k < edges g → (edge g k).upper ≡ b → is_some (noted_value k v.picked) ≡ true)
+    (all_laid : (k : ℕ) → k < edges g → (edge g k).lower ≡ b → is_some (noted_value k v.laid) ≡ true)
     (out : List (ℕ × Option Shared)) (are : are_picked v out ≡ true) where
   abbrev i : ℕ
   i = wait_place g b
@@ -82,10 +84,10 @@ module _ (g : PlanValue) (s : Tableau) (m : Machine) (laws : SixLaws g.layout.ed
   value_of None h = absurd (true≢false (sym h))
 
   pub full : AllPicked g.layout.edges m b
-  full k in_k up = let x = value_of (noted k v.picked) (all_picked k in_k up) in ((st.slots.notes id v at live).picked k x.0 x.1).1
+  full k in_k up = let x = value_of (noted_value k v.picked) (all_picked k in_k up) in ((st.slots.notes id v at live).picked k x.0 x.1).1
 
   pub spread : AllLaid g.layout.edges m b
-  spread k in_k low = let x = value_of (noted k v.laid) (all_laid k in_k low) in ((st.slots.notes id v at live).laid k x.0 x.1).1
+  spread k in_k low = let x = value_of (noted_value k v.laid) (all_laid k in_k low) in ((st.slots.notes id v at live).laid k x.0 x.1).1
 
   in_words : i < length s.words
   in_words = let w = st.words.wide in omega arith
@@ -101,7 +103,7 @@ module _ (g : PlanValue) (s : Tableau) (m : Machine) (laws : SixLaws g.layout.ed
 
   -- the askers are the blocks that are parked on b
   askers_are : (c : ℕ) → is_in c (askers g.layout.edges b found) ≡ is_parked_on b (m.stage c)
-  askers_are c = same_bool (is_in c (askers g.layout.edges b found)) (is_parked_on b (m.stage c))
+  askers_are c = same_answer (is_in c (askers g.layout.edges b found)) (is_parked_on b (m.stage c))
       (λ q. let a = asks g.layout.edges b found c q in
       let p = st.words.waits a.number a.inside (λ z. open_yet (ap m.stage (sym a.lower) ∙ z)) (ap (λ z. bit_at (get_or s.words (wait_place g z) 0) ((edge g a.number).letter - 1)) a.lower ∙ a.bit) in
       ap (λ z. is_parked_on b (m.stage z)) (sym a.upper) ∙ ap (is_parked_on b) p ∙ eq-eqb (edge g a.number).lower b a.lower)
@@ -179,13 +181,13 @@ module _ (g : PlanValue) (s : Tableau) (m : Machine) (laws : SixLaws g.layout.ed
     laid = λ k. refl;
     picked = λ k. refl;
     tended = λ w c h. inl (⊎_elim
-        (λ q. or_less (is_held_by w (m.stage c)) (is_made_by g m book.maker w c) (stage_is c (λ t. is_held_by w t ≡ true → is_held_by w (m.stage c) ≡ true) (λ _ p. absurd (true≢false (sym p))) (λ _ p. sym (held_published v.worker b w (m.stage c)) ∙ p) q))
+        (λ q. or_left (is_held_by w (m.stage c)) (is_made_by g m book.maker w c) (stage_is c (λ t. is_held_by w t ≡ true → is_held_by w (m.stage c) ≡ true) (λ _ p. absurd (true≢false (sym p))) (λ _ p. sym (held_published v.worker b w (m.stage c)) ∙ p) q))
         (λ q. dite (ℕ_discrete w v.worker)
         (λ same. dite (ℕ_discrete c b)
-        (λ here. or_less (is_held_by w (m.stage c)) (is_made_by g m book.maker w c) (held_self w (m.stage c) (ap m.stage here ∙ held ∙ ap (λ x. Held x) (sym same))))
-        (λ ne. or_more (is_held_by w (m.stage c)) (is_made_by g m book.maker w c) (sym (made_there w c ne) ∙ q)))
-        (λ ne. or_more (is_held_by w (m.stage c)) (is_made_by g m book.maker w c) (sym (made_theirs w c ne) ∙ q)))
-        (or_true (is_held_by w (n.stage c)) (is_made_by g n maker w c) h));
+        (λ here. or_left (is_held_by w (m.stage c)) (is_made_by g m book.maker w c) (true_held w (m.stage c) (ap m.stage here ∙ held ∙ ap (λ x. Held x) (sym same))))
+        (λ ne. or_right (is_held_by w (m.stage c)) (is_made_by g m book.maker w c) (sym (made_there w c ne) ∙ q)))
+        (λ ne. or_right (is_held_by w (m.stage c)) (is_made_by g m book.maker w c) (sym (made_theirs w c ne) ∙ q)))
+        (or_cases (is_held_by w (n.stage c)) (is_made_by g n maker w c) h));
     drawn_held = λ w k in_k d. stage_is (edge g k).lower (λ t. is_held_by w t ≡ is_held_by w (m.stage (edge g k).lower))
         (λ q. absurd (true≢false (sym (spread k in_k q) ∙ (st.slots.away k in_k d).unlaid)))
         (λ _. held_published v.worker b w (m.stage (edge g k).lower));
@@ -196,7 +198,7 @@ module _ (g : PlanValue) (s : Tableau) (m : Machine) (laws : SixLaws g.layout.ed
   apart [] h k yet = tt
   apart (x ∷ xs) h k yet =
       let all = one_picked v x xs h in
-      let y = value_of (noted x.0 v.picked) all.2 in
+      let y = value_of (noted_value x.0 v.picked) all.2 in
       ((λ e. true≢false (sym ((st.slots.notes id v at live).picked x.0 y.0 y.1).1 ∙ ap m.picked (sym e) ∙ yet)), apart xs all.4 k yet)
 
   -- no value goes home with them
@@ -225,10 +227,10 @@ module _ (g : PlanValue) (s : Tableau) (m : Machine) (laws : SixLaws g.layout.ed
   }
 
 pub publish_allowed : (g : PlanValue) (slots id : ℕ) (me : Mine) (b : ℕ) → b < blocks g → me.0.live ≡ true → is_in b me.0.held ≡ true
-    → ((k : ℕ) → k < edges g → (edge g k).upper ≡ b → is_some (noted k me.0.picked) ≡ true)
-    → ((k : ℕ) → k < edges g → (edge g k).lower ≡ b → is_some (noted k me.0.laid) ≡ true)
+    → ((k : ℕ) → k < edges g → (edge g k).upper ≡ b → is_some (noted_value k me.0.picked) ≡ true)
+    → ((k : ℕ) → k < edges g → (edge g k).lower ≡ b → is_some (noted_value k me.0.laid) ≡ true)
     → are_picked me.0 me.1 ≡ true
-    → Allows (Holds g) slots id me (wait_place g b) (λ x. bit_or x (2 ^ 63)) (tells_published (step slots (wait_place g b) (2 ^ 63) 0 none) me)
+    → Allows (Holds g) slots id me (wait_place g b) (λ x. bit_or x (2 ^ 63)) (publish_step (step slots (wait_place g b) (2 ^ 63) 0 none) me)
 publish_allowed g slots id me b inside live lists picks lays are s h deep at word =
     let x = get_or s.words (wait_place g b) 0 in
     let kn = h.stands.seats.knows id me.0 at live in

@@ -1,6 +1,5 @@
 -- A release keeps the rule, and changes the state as its event does.
-use Rattle.std.proofs.Common.{◌≡◌, ℕ, ◌-◌, ◌<◌, Bool, true, false, cond, eqb, ◌&&◌, ◌||◌, get_or, set, refl, sym, ap, ◌∙◌, inl, eq-eqb, ne_eqb, arith}
-use Rattle.std.specs.Prelude.{nat_lt}
+use Rattle.std.proofs.Common.{◌≡◌, ℕ, ◌-◌, ◌<◌, Bool, true, false, cond, eqb, ◌||◌, get_or, set, refl, sym, ap, ◌∙◌, inl, eq-eqb, ne_eqb, arith}
 use mathlib.Core.Option.{some, none}
 use lib.ListN.{get_elem?}
 use Rattle.atomic_table.specs.Table.{keeps, step, Allows}
@@ -8,7 +7,7 @@ use Rattle.nichols_core.specs.declared.stage.Stage.TheVariants.{Ready, Parked, R
 use Rattle.nichols_core.specs.Machine.{Machine, put_owed, release, is_held_by, is_resumed_by, is_published}
 use Rattle.nichols_core.specs.SixLaws.{SixLaws}
 use Rattle.nichols_core.specs.Runs.{one_if}
-use Rattle.nichols_core.proofs.Stages.{put_is, resumed_by, published}
+use Rattle.nichols_core.proofs.Stages.{put_is, resumed_by}
 use Rattle.nichols_core.proofs.LawsKept.{core, whole, release_keeps}
 use Rattle.nichols_shelf.specs.Plan.{PlanValue}
 use Rattle.nichols_shelf.specs.Lists.{is_in}
@@ -17,12 +16,12 @@ use Rattle.nichols_shelf.specs.Views.{release_view}
 use Rattle.nichols_shelf.specs.Words.{done_bit}
 use Rattle.nichols_shelf.specs.Seats.{is_made_by, Knows}
 use Rattle.nichols_shelf.specs.Stands.{Tableau, Book, Stands, Holds}
-use Rattle.nichols_shelf.specs.Steps.{Mine, released}
+use Rattle.nichols_shelf.specs.Steps.{Mine, release_step}
 use Rattle.nichols_shelf.specs.declared.view.View.{View}
 use Rattle.nichols_shelf.proofs.Listed.{is_in-without}
 use Rattle.nichols_shelf.proofs.StageTests.{put_same, owed_of_other, owed_of_mine, not_resumed_by}
 use Rattle.nichols_shelf.proofs.Desks.{IsLike, desk_step, edges_stay}
-use Rattle.nichols_shelf.proofs.SeatsKept.{Elsewhere, seats_step}
+use Rattle.nichols_shelf.proofs.SeatsKept.{Elsewhere, seats_step, made_stays, published_stays}
 use Rattle.nichols_shelf.proofs.SlotsKept.{SameEdges, slots_kept}
 
 module _ (g : PlanValue) (s : Tableau) (m : Machine) (laws : SixLaws g.layout.edges m) (book : Book) (st : Stands g s m book)
@@ -54,10 +53,10 @@ module _ (g : PlanValue) (s : Tableau) (m : Machine) (laws : SixLaws g.layout.ed
   same_held u = put_same m.stage b Ready (is_held_by u) (sym (ap (is_held_by u) was))
 
   same_made : (u c : ℕ) → is_made_by g n book.maker u c ≡ is_made_by g m book.maker u c
-  same_made u c = ap (λ t. nat_lt c (blocks g) && (t && eqb (book.maker c) u)) (same_published c)
+  same_made = made_stays g m n book.maker same_published
 
   still_published : (c : ℕ) → m.stage c ≡ Published → n.stage c ≡ Published
-  still_published c e = published (n.stage c) (same_published c ∙ ap is_published e)
+  still_published = published_stays g m n book.maker same_published
 
   elsewhere : Elsewhere g v.worker m n book.maker book.maker
   elsewhere = record {
@@ -102,7 +101,7 @@ module _ (g : PlanValue) (s : Tableau) (m : Machine) (laws : SixLaws g.layout.ed
   }
 
 pub release_allowed : (g : PlanValue) (slots id : ℕ) (me : Mine) (b : ℕ) → b < blocks g → me.0.live ≡ true → is_in b me.0.resumed ≡ true
-    → Allows (Holds g) slots id me (desk_place b) (λ _. 0) (released (step slots (desk_place b) 0 0 none) me)
+    → Allows (Holds g) slots id me (desk_place b) (λ _. 0) (release_step (step slots (desk_place b) 0 0 none) me)
 release_allowed g slots id me b inside live lists s h deep at word =
     let x = get_or s.words (desk_place b) 0 in
     let same : desk_place b - 1 ≡ b = omega arith in (

@@ -1,17 +1,52 @@
 -- What a step of one worker leaves to the seats of the others.
-use Rattle.std.proofs.Common.{◌≡◌, ◌≢◌, ℕ, ◌<◌, ◌≤◌, true, ◌||◌, List, set, sym, ap, ◌∙◌, subst, ⊎_elim}
+use Rattle.std.proofs.Common.{◌≡◌, ◌≢◌, ℕ, ◌<◌, ◌≤◌, true, ◌||◌, List, set, sym, ap, ◌∙◌, subst, ⊎_elim, Bool, eqb, ◌&&◌}
+use Rattle.std.specs.Prelude.{nat_lt}
+use Rattle.std.proofs.lemmas.Bool.{or_left, or_right}
 use mathlib.Core.Option.{some, some-injective}
 use mathlib.Core.Logic.{dite}
 use native.Mathlib.Decide.{ℕ_discrete}
 use lib.ListN.{get_elem?}
 use Rattle.atomic_table.proofs.Lists.{at_set, set_here, set_else}
 use Rattle.nichols_core.specs.declared.stage.Stage.TheVariants.{Published}
-use Rattle.nichols_core.specs.Machine.{Machine, is_held_by, is_resumed_by}
+use Rattle.nichols_core.specs.Machine.{Machine, is_held_by, is_resumed_by, is_published}
 use Rattle.nichols_core.specs.Runs.{one_if}
+use Rattle.nichols_core.proofs.Stages.{published}
 use Rattle.nichols_shelf.specs.Plan.{PlanValue}
-use Rattle.nichols_shelf.specs.Seats.{is_made_by, Knows, IsNumbered, Lives, SeatsStand}
+use Rattle.nichols_shelf.specs.Seats.{is_made_by, Knows, IsNumbered, Lives, SeatsStand, concerns}
 use Rattle.nichols_shelf.specs.declared.view.View.{View}
+use Rattle.nichols_shelf.specs.Places.{blocks}
 use Rattle.nichols_shelf.proofs.Listed.{inside_of}
+
+-- who holds a block, has resumed it, owes it or made it is about it
+module _ (g : PlanValue) (m : Machine) (maker : ℕ → ℕ) (w b : ℕ) where
+  abbrev holds_it : Bool
+  holds_it = is_held_by w (m.stage b)
+
+  abbrev resumes_it : Bool
+  resumes_it = is_resumed_by w (m.stage b)
+
+  abbrev made_it : Bool
+  made_it = is_made_by g m maker w b
+
+  pub concerns_held : holds_it ≡ true → concerns g m maker w b ≡ true
+  concerns_held = or_left holds_it (resumes_it || (m.owes w b || made_it))
+
+  pub concerns_resumed : resumes_it ≡ true → concerns g m maker w b ≡ true
+  concerns_resumed e = or_right holds_it (resumes_it || (m.owes w b || made_it)) (or_left resumes_it (m.owes w b || made_it) e)
+
+  pub concerns_owed : m.owes w b ≡ true → concerns g m maker w b ≡ true
+  concerns_owed e = or_right holds_it (resumes_it || (m.owes w b || made_it)) (or_right resumes_it (m.owes w b || made_it) (or_left (m.owes w b) made_it e))
+
+  pub concerns_made : made_it ≡ true → concerns g m maker w b ≡ true
+  concerns_made e = or_right holds_it (resumes_it || (m.owes w b || made_it)) (or_right resumes_it (m.owes w b || made_it) (or_right (m.owes w b) made_it e))
+
+-- a step that publishes nothing
+module _ (g : PlanValue) (m n : Machine) (maker : ℕ → ℕ) (same : (c : ℕ) → is_published (n.stage c) ≡ is_published (m.stage c)) where
+  pub made_stays : (w c : ℕ) → is_made_by g n maker w c ≡ is_made_by g m maker w c
+  made_stays w c = ap (λ t. nat_lt c (blocks g) && (t && eqb (maker c) w)) (same c)
+
+  pub published_stays : (c : ℕ) → m.stage c ≡ Published → n.stage c ≡ Published
+  published_stays c e = published (n.stage c) (same c ∙ ap is_published e)
 
 -- from the state m to the state n, everything that concerns another worker than w stays, and what is published
 pub record Elsewhere (g : PlanValue) (w : ℕ) (m n : Machine) (maker maker' : ℕ → ℕ) : Type 0 where

@@ -1,28 +1,25 @@
 -- The laws of the shelf.
-use Rattle.std.proofs.Common.{◌≡◌, ◌≢◌, ℕ, ◌-◌, ◌^◌, ◌<◌, Bool, true, false, eqb, ◌&&◌, ◌||◌, [], get_or, set, refl, sym, ap, ◌∙◌, subst, eq-eqb, ne_eqb, lt-ltb, arith, Some, None}
+use Rattle.std.proofs.Common.{◌≡◌, ◌≢◌, ℕ, ◌-◌, ◌^◌, ◌<◌, Bool, true, false, eqb, ◌&&◌, [], get_or, set, refl, sym, ap, ◌∙◌, subst, eq-eqb, ne_eqb, lt-ltb, Some, None}
 use Rattle.std.specs.Prelude.{is_some, nat_lt, bit_or}
-use Rattle.std.proofs.lemmas.Bool.{ltb-true}
+use Rattle.std.proofs.lemmas.Bool.{ltb-true, and_parts}
 use mathlib.Core.Option.{some, none, some-injective, some-ne-none}
 use lib.ListN.{get_elem?}
-use Rattle.nichols_core.specs.Machine.{ask, is_held_by, is_resumed_by, is_published}
+use Rattle.nichols_core.specs.Machine.{ask, is_published}
 use Rattle.nichols_core.specs.SixLaws.{NonePicked}
 use Rattle.nichols_core.specs.Runs.{one_if}
-use Rattle.nichols_core.specs.declared.stage.Stage.{Stage}
-use Rattle.nichols_core.specs.declared.stage.Stage.TheVariants.{Ready, Held, Parked, Resumed, Published}
 use Rattle.nichols_core.proofs.Conditions.{after_ask, after_pick, after_lay, after_publish, after_release}
 use Rattle.nichols_core.proofs.Stages.{published}
 use Rattle.nichols_value.specs.Worth.{worth}
 use Rattle.nichols_value.specs.declared.shared.Shared.{Shared}
 use Rattle.nichols_value.specs.declared.value.BlockValue.{BlockValue}
 use Rattle.nichols_shelf.specs.Plan.{PlanValue, IsRightFor}
-use Rattle.nichols_shelf.specs.Lists.{is_in, noted}
+use Rattle.nichols_shelf.specs.Lists.{is_in, noted_value}
 use Rattle.nichols_shelf.specs.Places.{blocks, edges, edge, desk_place, wait_place, edge_place}
 use Rattle.nichols_shelf.specs.Views.{lay_view, release_view, ask_view, publish_view, pick_view}
 use Rattle.nichols_shelf.specs.Words.{done_bit}
 use Rattle.nichols_shelf.specs.Seats.{is_made_by}
 use Rattle.nichols_shelf.specs.Stands.{Tableau, Stands, Holds}
 use Rattle.nichols_shelf.specs.Laws.{StandsFor, stepped_to, IsShown, at_home, as_picked, as_laid, ATakeIsItsEvent, AReleaseIsItsEvent, AnAskIsItsEvent, APublicationIsItsEvent, APickIsItsEvent, ADrawLeavesTheState, ALayingIsItsEvent, ASplitLeavesTheState, AJoinPassesDebts, ValuesAreRight, ABlockHasOneValue, APublishedBlockWasMadeOnce, NothingElseWasMade}
-use Rattle.nichols_shelf.proofs.StageTests.{or_more, and_true}
 use Rattle.nichols_shelf.proofs.Taken.{take_stands}
 use Rattle.nichols_shelf.proofs.Released.{release_stands, was}
 use Rattle.nichols_shelf.proofs.Asking.{ask_stands, held, none_picked}
@@ -32,6 +29,8 @@ use Rattle.nichols_shelf.proofs.Drawn as drawing
 use Rattle.nichols_shelf.proofs.Laid as laying
 use Rattle.nichols_shelf.proofs.Split.{split_stands}
 use Rattle.nichols_shelf.proofs.Joined.{join_stands}
+use Rattle.nichols_shelf.proofs.SeatsKept.{concerns_made}
+use Rattle.nichols_shelf.proofs.StageTests.{done_is}
 
 pub a_take_is_its_event : ATakeIsItsEvent
 a_take_is_its_event g s m book id v h b inside = (book, take_stands g s m h.laws book h.stands id v h.there h.live b inside)
@@ -95,7 +94,7 @@ a_draw_leaves_the_state g s m book id v h undrawn b a value may =
     let k = may.number in
     let at = may.out_of in
     let lists : is_in (edge g k).lower v.held ≡ true = ap (λ c. is_in c v.held) at.lower ∙ may.holds in
-    let picks : (j : ℕ) → j < edges g → (edge g j).upper ≡ (edge g k).lower → is_some (noted j v.picked) ≡ true = λ j in_j up. may.picked j in_j (up ∙ at.lower) in (
+    let picks : (j : ℕ) → j < edges g → (edge g j).upper ≡ (edge g k).lower → is_some (noted_value j v.picked) ≡ true = λ j in_j up. may.picked j in_j (up ∙ at.lower) in (
       drawing.at_home g h.rules s m h.laws book h.stands id v h.there h.live k at.inside lists picks may.unlaid undrawn,
       (_, drawing.draw_stands g h.rules s m h.laws book h.stands id v h.there h.live k at.inside lists picks may.unlaid undrawn),
     )
@@ -148,13 +147,6 @@ values_are_right g s h = (
 pub a_block_has_one_value : ABlockHasOneValue
 a_block_has_one_value g s h b x y p q = shown_is g s h b x p ∙ sym (shown_is g s h b y q)
 
-done_is : (t : Stage) → done_bit t ≡ 1 → t ≡ Published
-done_is Ready e = absurd (omega arith)
-done_is (Held x) e = absurd (omega arith)
-done_is (Parked x) e = absurd (omega arith)
-done_is (Resumed x) e = absurd (omega arith)
-done_is Published e = refl
-
 pub a_published_block_was_made_once : APublishedBlockWasMadeOnce
 a_published_block_was_made_once g s h b inside bit =
     let m = h.machine in
@@ -162,8 +154,7 @@ a_published_block_was_made_once g s h b inside bit =
     let w = maker b in
     let is = done_is (m.stage b) (sym (h.stands.words.done b inside) ∙ bit) in
     let made : is_made_by g m maker w b ≡ true = λ i. lt-ltb b (blocks g) inside i && (is_published (is i) && eq-eqb w w refl i) in
-    let lives = h.stands.seats.concerned w b (or_more (is_held_by w (m.stage b)) (is_resumed_by w (m.stage b) || (m.owes w b || is_made_by g m maker w b))
-    (or_more (is_resumed_by w (m.stage b)) (m.owes w b || is_made_by g m maker w b) (or_more (m.owes w b) (is_made_by g m maker w b) made))) in
+    let lives = h.stands.seats.concerned w b (concerns_made g m maker w b made) in
     let k = h.stands.seats.knows (h.book.seat w) lives.view lives.there lives.live in (
       h.book.seat w,
       (
@@ -190,9 +181,9 @@ nothing_else_was_made g s h b id v there live some_times =
     let m = h.machine in
     let k = h.stands.seats.knows id v there live in
     let made = is_true (is_made_by g m h.book.maker v.worker b) (λ e. some_times (k.made b ∙ ap one_if e)) in
-    let p = and_true (nat_lt b (blocks g)) (is_published (m.stage b) && eqb (h.book.maker b) v.worker) made in
+    let p = and_parts (nat_lt b (blocks g)) (is_published (m.stage b) && eqb (h.book.maker b) v.worker) made in
     let inside = ltb-true b (blocks g) p.0 in
-    let is = published (m.stage b) (and_true (is_published (m.stage b)) (eqb (h.book.maker b) v.worker) p.1).0 in
+    let is = published (m.stage b) (and_parts (is_published (m.stage b)) (eqb (h.book.maker b) v.worker) p.1).0 in
     (inside, h.stands.words.done b inside ∙ ap done_bit is)
   where
     is_true : (t : Bool) → (t ≡ false → ⊥) → t ≡ true

@@ -9,14 +9,14 @@ use Rattle.atomic_table.proofs.Lists.{at_set}
 use Rattle.nichols_core.specs.Machine.{Machine, is_held_by}
 use Rattle.nichols_core.specs.SixLaws.{SixLaws, NonePicked, NoneLaid}
 use Rattle.nichols_core.proofs.Stages.{held_by}
+use Rattle.nichols_core.proofs.Conditions.{true_held}
 use Rattle.nichols_value.specs.declared.shared.Shared.{Shared}
 use Rattle.nichols_value.specs.declared.value.BlockValue.{BlockValue}
 use Rattle.nichols_shelf.specs.Plan.{PlanValue}
 use Rattle.nichols_shelf.specs.Places.{edges, edge, edge_place}
 use Rattle.nichols_shelf.specs.Seats.{tends}
 use Rattle.nichols_shelf.specs.Slots.{edge_code, Notes, SlotsStand}
-use Rattle.nichols_shelf.specs.Lists.{is_in, noted}
-use Rattle.nichols_shelf.proofs.StageTests.{held_self}
+use Rattle.nichols_shelf.specs.Lists.{is_in, noted_value}
 use Rattle.nichols_shelf.specs.declared.view.View.{View}
 
 -- from the state m to the state n: no edge is laid or picked, who tends a block tended it or it was untouched, and the holder of a
@@ -35,13 +35,13 @@ module _ (g : PlanValue) (m n : Machine) (laws : SixLaws g.layout.edges m) (make
 
   pub notes_kept : (v v' : View) → v'.worker ≡ v.worker → v'.picked ≡ v.picked → v'.laid ≡ v.laid → v'.drawn ≡ v.drawn → Notes g m maker value drawn v → Notes g n maker' value drawn v'
   notes_kept v v' worker picks lays draws notes = record {
-    picked = λ k x h. let r = notes.picked k x (ap (noted k) (sym picks) ∙ h) in (r.0, same.picked k ∙ r.1, r.2);
-    picks = λ k inside h p. ap (λ xs. is_some (noted k xs)) picks ∙ ⊎_elim
+    picked = λ k x h. let r = notes.picked k x (ap (noted_value k) (sym picks) ∙ h) in (r.0, same.picked k ∙ r.1, r.2);
+    picks = λ k inside h p. ap (λ xs. is_some (noted_value k xs)) picks ∙ ⊎_elim
         (λ was. notes.picks k inside was (sym (same.picked k) ∙ p))
         (λ never. absurd (true≢false (sym (sym (same.picked k) ∙ p) ∙ never.0 k inside refl)))
         (same.tended v.worker (edge g k).upper (ap (λ w. tends g n maker' w (edge g k).upper) (sym worker) ∙ h));
-    laid = λ k x h. let r = notes.laid k x (ap (noted k) (sym lays) ∙ h) in (r.0, same.laid k ∙ r.1, r.2);
-    lays = λ k inside h p. ap (λ xs. is_some (noted k xs)) lays ∙ ⊎_elim
+    laid = λ k x h. let r = notes.laid k x (ap (noted_value k) (sym lays) ∙ h) in (r.0, same.laid k ∙ r.1, r.2);
+    lays = λ k inside h p. ap (λ xs. is_some (noted_value k xs)) lays ∙ ⊎_elim
         (λ was. notes.lays k inside was (sym (same.laid k) ∙ p))
         (λ never. absurd (true≢false (sym (sym (same.laid k) ∙ p) ∙ never.1 k inside refl)))
         (same.tended v.worker (edge g k).lower (ap (λ w. tends g n maker' w (edge g k).lower) (sym worker) ∙ h));
@@ -71,7 +71,7 @@ module _ (g : PlanValue) (words words' : List ℕ) (homes homes' : List (table.O
       out = there k inside (unpicked k inside r.unlaid) ∙ r.out;
       full = λ j within u. same.picked j ∙ r.full j within u;
       holder = r.holder;
-      held = held_by r.holder (n.stage (edge g k).lower) (same.drawn_held r.holder k inside d ∙ held_self r.holder (m.stage (edge g k).lower) r.held);
+      held = held_by r.holder (n.stage (edge g k).lower) (same.drawn_held r.holder k inside d ∙ true_held r.holder (m.stage (edge g k).lower) r.held);
     };
     notes = λ j u here alive. ⊎_elim
         (λ (t : (j ≡ id) × (v' ≡ u)). subst (Notes g n maker' value drawn) t.1 (notes_kept g m n laws maker maker' value drawn same v v' worker picks lays draws (st.notes id v at live)))
@@ -81,3 +81,19 @@ module _ (g : PlanValue) (words words' : List ℕ) (homes homes' : List (table.O
     where
       unpicked : (k : ℕ) → k < edges g → m.laid k ≡ false → m.picked k ≡ false
       unpicked k inside h = false_from_ne_true (m.picked k) (λ p. true≢false (sym (laws.picked k inside p).0 ∙ h))
+
+-- where debts pass and views change, all else that is known of the slots stays
+pub slots_stay : (g : PlanValue) (words : List ℕ) (homes : List (table.Option (Option Shared))) (views views' : List View) (m : Machine) (owes : ℕ → ℕ → Bool) (maker maker' : ℕ → ℕ) (value : ℕ → BlockValue) (drawn : ℕ → Bool)
+    → SlotsStand g words homes views m maker value drawn
+    → ((id : ℕ) (v : View) → get_elem? views' id ≡ some v → v.live ≡ true → Notes g (record m { owes = owes }) maker' value drawn v)
+    → SlotsStand g words homes views' (record m { owes = owes }) maker' value drawn
+slots_stay g words homes views views' m owes maker maker' value drawn st notes = record {
+  deep = st.deep;
+  code = st.code;
+  home = st.home;
+  empty = st.empty;
+  spent = st.spent;
+  right = st.right;
+  away = λ k inside d. let r = st.away k inside d in record { unlaid = r.unlaid; out = r.out; full = r.full; holder = r.holder; held = r.held };
+  notes = notes;
+}

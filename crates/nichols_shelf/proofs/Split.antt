@@ -1,7 +1,8 @@
 -- A new pass keeps the rule, and leaves the state.
-use Rattle.std.proofs.Common.{◌≡◌, ◌≢◌, ℕ, ◌+◌, Bool, true, false, true≢false, ◌&&◌, ◌||◌, List, [], ◌∷◌, ◌++◌, length, set, refl, sym, ap, ◌∙◌, subst, ⊎_elim, arith, length-set}
+use Rattle.std.proofs.Common.{◌≡◌, ◌≢◌, ℕ, ◌+◌, true, false, true≢false, ◌&&◌, List, [], ◌∷◌, ◌++◌, length, set, refl, sym, ap, ◌∙◌, subst, ⊎_elim, arith, length-set}
 use Rattle.std.specs.Prelude.{Some, None}
-use Rattle.std.proofs.lemmas.Bool.{false_from_ne_true}
+use Rattle.std.proofs.lemmas.Bool.{false_from_ne_true, or_cases}
+use Rattle.std.proofs.Math.Bool.{and-false}
 use mathlib.Core.Option.{some}
 use mathlib.Core.Logic.{dite}
 use native.Mathlib.Decide.{ℕ_discrete}
@@ -20,8 +21,8 @@ use Rattle.nichols_shelf.specs.Slots.{Notes, SlotsStand}
 use Rattle.nichols_shelf.specs.Stands.{Tableau, Book, Stands, Holds}
 use Rattle.nichols_shelf.specs.declared.view.View.{View}
 use Rattle.nichols_shelf.proofs.Listed.{at_end}
-use Rattle.nichols_shelf.proofs.StageTests.{or_true, or_less, or_more}
-use Rattle.nichols_shelf.proofs.SeatsKept.{lives_set}
+use Rattle.nichols_shelf.proofs.SeatsKept.{lives_set, concerns_held, concerns_resumed, concerns_owed, concerns_made}
+use Rattle.nichols_shelf.proofs.SlotsKept.{slots_stay}
 
 module _ (g : PlanValue) (s : Tableau) (m : Machine) (book : Book) (st : Stands g s m book) (id : ℕ) (v : View) (at : get_elem? s.views id ≡ some v) (live : v.live ≡ true) (zeroth : v.worker ≡ 0) where
   abbrev kv : Knows g m book.seat book.maker id v
@@ -45,21 +46,19 @@ module _ (g : PlanValue) (s : Tableau) (m : Machine) (book : Book) (st : Stands 
   unconcerned b h = let x = st.seats.concerned w b h in no_next (book.seat w) x.view x.there x.live x.worker
 
   not_held : (b : ℕ) → is_held_by w (m.stage b) ≡ false
-  not_held b = false_from_ne_true (is_held_by w (m.stage b)) (λ e. unconcerned b (or_less (is_held_by w (m.stage b)) (is_resumed_by w (m.stage b) || (m.owes w b || is_made_by g m book.maker w b)) e))
+  not_held b = false_from_ne_true (is_held_by w (m.stage b)) (λ e. unconcerned b (concerns_held g m book.maker w b e))
 
   not_resumed : (b : ℕ) → is_resumed_by w (m.stage b) ≡ false
-  not_resumed b = false_from_ne_true (is_resumed_by w (m.stage b)) (λ e. unconcerned b (or_more (is_held_by w (m.stage b)) (is_resumed_by w (m.stage b) || (m.owes w b || is_made_by g m book.maker w b)) (or_less (is_resumed_by w (m.stage b)) (m.owes w b || is_made_by g m book.maker w b) e)))
+  not_resumed b = false_from_ne_true (is_resumed_by w (m.stage b)) (λ e. unconcerned b (concerns_resumed g m book.maker w b e))
 
   not_owed : (b : ℕ) → m.owes w b ≡ false
-  not_owed b = false_from_ne_true (m.owes w b) (λ e. unconcerned b (or_more (is_held_by w (m.stage b)) (is_resumed_by w (m.stage b) || (m.owes w b || is_made_by g m book.maker w b))
-      (or_more (is_resumed_by w (m.stage b)) (m.owes w b || is_made_by g m book.maker w b) (or_less (m.owes w b) (is_made_by g m book.maker w b) e))))
+  not_owed b = false_from_ne_true (m.owes w b) (λ e. unconcerned b (concerns_owed g m book.maker w b e))
 
   not_made : (b : ℕ) → is_made_by g m book.maker w b ≡ false
-  not_made b = false_from_ne_true (is_made_by g m book.maker w b) (λ e. unconcerned b (or_more (is_held_by w (m.stage b)) (is_resumed_by w (m.stage b) || (m.owes w b || is_made_by g m book.maker w b))
-      (or_more (is_resumed_by w (m.stage b)) (m.owes w b || is_made_by g m book.maker w b) (or_more (m.owes w b) (is_made_by g m book.maker w b) e))))
+  not_made b = false_from_ne_true (is_made_by g m book.maker w b) (λ e. unconcerned b (concerns_made g m book.maker w b e))
 
   untended : (b : ℕ) → tends g m book.maker w b ≡ true → ⊥
-  untended b h = ⊎_elim (λ q. true≢false (sym q ∙ not_held b)) (λ q. true≢false (sym q ∙ not_made b)) (or_true (is_held_by w (m.stage b)) (is_made_by g m book.maker w b) h)
+  untended b h = ⊎_elim (λ q. true≢false (sym q ∙ not_held b)) (λ q. true≢false (sym q ∙ not_made b)) (or_cases (is_held_by w (m.stage b)) (is_made_by g m book.maker w b) h)
 
   abbrev seat : ℕ → ℕ
   seat = put book.seat w (length s.views)
@@ -110,32 +109,20 @@ module _ (g : PlanValue) (s : Tableau) (m : Machine) (book : Book) (st : Stands 
   }
 
   slots_after : SlotsStand g s.words s.homes after m book.maker book.value book.drawn
-  slots_after = record {
-    deep = st.slots.deep;
-    code = st.slots.code;
-    home = st.slots.home;
-    empty = st.slots.empty;
-    spent = st.slots.spent;
-    right = st.slots.right;
-    away = st.slots.away;
-    notes = all_after (λ j u. Notes g m book.maker book.value book.drawn u)
-        (let r = st.slots.notes id v at live in record { picked = r.picked; picks = r.picks; laid = r.laid; lays = r.lays; draws = r.draws })
-        (λ j u apart there alive. st.slots.notes j u there alive)
-        record {
-          picked = λ k x e. absurd (none_is_some x e);
-          picks = λ k in_k h p. absurd (untended (edge g k).upper h);
-          laid = λ k x e. absurd (none_is_some x e);
-          lays = λ k in_k h p. absurd (untended (edge g k).lower h);
-          draws = λ k in_k. sym (and_false (book.drawn k) ∙ refl) ∙ ap (λ t. book.drawn k && t) (sym (not_held (edge g k).lower));
-        };
-  }
+  slots_after = slots_stay g s.words s.homes s.views after m m.owes book.maker book.maker book.value book.drawn st.slots
+      (all_after (λ j u. Notes g m book.maker book.value book.drawn u)
+      (let r = st.slots.notes id v at live in record { picked = r.picked; picks = r.picks; laid = r.laid; lays = r.lays; draws = r.draws })
+      (λ j u apart there alive. st.slots.notes j u there alive)
+      record {
+        picked = λ k x e. absurd (none_is_some x e);
+        picks = λ k in_k h p. absurd (untended (edge g k).upper h);
+        laid = λ k x e. absurd (none_is_some x e);
+        lays = λ k in_k h p. absurd (untended (edge g k).lower h);
+        draws = λ k in_k. sym (and-false (book.drawn k)) ∙ ap (λ t. book.drawn k && t) (sym (not_held (edge g k).lower));
+      })
     where
       none_is_some : (x : BlockValue) → None ≡ Some x → ⊥
       none_is_some x e = cc
-
-      and_false : (t : Bool) → (t && false) ≡ false
-      and_false true = refl
-      and_false false = refl
 
   pub split_stands : Stands g record { words = s.words; homes = s.homes; views = after } m (record book { seat = seat; count = book.count + 1 })
   split_stands = record { words = st.words; seats = seats_after; slots = slots_after }

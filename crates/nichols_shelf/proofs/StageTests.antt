@@ -1,32 +1,27 @@
 -- What the tests of stages say of the stages before and after a step.
-use Rattle.std.proofs.Common.{◌≡◌, ◌≢◌, ◌⊎◌, ℕ, Bool, true, false, true≢false, cond, eqb, ◌&&◌, ◌||◌, refl, sym, ap, ◌∙◌, inl, inr, eq-eqb, ne_eqb}
+use Rattle.std.proofs.Common.{◌≡◌, ◌≢◌, ◌⊎◌, ℕ, Bool, true, false, true≢false, cond, eqb, ◌&&◌, ◌||◌, refl, sym, ap, ◌∙◌, inl, inr, eq-eqb, ne_eqb, arith}
 use Rattle.std.proofs.lemmas.Bool.{eqb-true}
+use Rattle.std.proofs.Math.Bool.{or-false}
 use Rattle.nichols_core.specs.declared.stage.Stage.{Stage}
 use Rattle.nichols_core.specs.declared.stage.Stage.TheVariants.{Ready, Held, Parked, Resumed, Published}
 use Rattle.nichols_core.specs.Machine.{put, put_owed, is_held_by, is_resumed_by, is_published, is_parked_on, stage_after_take, stage_after_publication}
 use Rattle.nichols_core.proofs.Stages.{put_is}
 use Rattle.nichols_shelf.specs.Words.{desk_word, done_bit}
 
--- Bools
-pub same_bool : (p q : Bool) → (p ≡ true → q ≡ true) → (q ≡ true → p ≡ true) → p ≡ q
-same_bool true q f g = sym (f refl)
-same_bool false true f g = g refl
-same_bool false false f g = refl
+-- the stage that a word tells
+pub done_is : (t : Stage) → done_bit t ≡ 1 → t ≡ Published
+done_is Ready e = absurd (omega arith)
+done_is (Held x) e = absurd (omega arith)
+done_is (Parked x) e = absurd (omega arith)
+done_is (Resumed x) e = absurd (omega arith)
+done_is Published e = refl
 
-pub or_true : (p q : Bool) → (p || q) ≡ true → (p ≡ true) ⊎ (q ≡ true)
-or_true true q e = inl refl
-or_true false q e = inr e
-
-pub or_more : (p q : Bool) → q ≡ true → (p || q) ≡ true
-or_more true q e = refl
-or_more false q e = e
-
-pub or_less : (p q : Bool) → p ≡ true → (p || q) ≡ true
-or_less p q e = ap (λ t. t || q) e
-
-pub and_true : (p q : Bool) → (p && q) ≡ true → (p ≡ true) × (q ≡ true)
-and_true true q e = (refl, e)
-and_true false q e = absurd (true≢false (sym e))
+pub ready_is : (t : Stage) → desk_word t ≡ 0 → t ≡ Ready
+ready_is Ready e = refl
+ready_is (Held x) e = absurd (omega arith)
+ready_is (Parked x) e = absurd (omega arith)
+ready_is (Resumed x) e = absurd (omega arith)
+ready_is Published e = absurd (omega arith)
 
 -- what a change at one number leaves
 module _ {A B : Type 0} where
@@ -38,12 +33,6 @@ owed_of_other f w b t u c n = ap (λ s. cond (s && eqb c b) t (f u c)) (ne_eqb u
 
 pub owed_of_mine : (f : ℕ → ℕ → Bool) (w b : ℕ) (t : Bool) (c : ℕ) → put_owed f w b t w c ≡ cond (eqb c b) t (f w c)
 owed_of_mine f w b t c = ap (λ s. cond (s && eqb c b) t (f w c)) (eq-eqb w w refl)
-
-pub held_self : (w : ℕ) (s : Stage) → s ≡ Held w → is_held_by w s ≡ true
-held_self w s e = ap (is_held_by w) e ∙ eq-eqb w w refl
-
-pub resumed_self : (w : ℕ) (s : Stage) → s ≡ Resumed w → is_resumed_by w s ≡ true
-resumed_self w s e = ap (is_resumed_by w) e ∙ eq-eqb w w refl
 
 pub not_held_by : (w u : ℕ) (s : Stage) → s ≡ Held w → u ≢ w → is_held_by u s ≡ false
 not_held_by w u s e n = ap (is_held_by u) e ∙ ne_eqb w u (λ q. n (sym q))
@@ -120,11 +109,7 @@ module _ (w b : ℕ) where
       two : (t : Bool) → t ≡ is_resumed_by w (cond t (Resumed w) (Parked l))
       two true = sym (eq-eqb w w refl)
       two false = refl
-  resumed_mine (Resumed x) = or_false (eqb x w)
-    where
-      or_false : (t : Bool) → (t || false) ≡ t
-      or_false true = refl
-      or_false false = refl
+  resumed_mine (Resumed x) = or-false (eqb x w)
   resumed_mine Published = refl
 
   pub published_published : (s : Stage) → is_published (stage_after_publication w b s) ≡ is_published s

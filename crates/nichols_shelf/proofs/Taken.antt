@@ -1,6 +1,6 @@
 -- A take keeps the rule, and changes the state as its event does.
-use Rattle.std.proofs.Common.{◌≡◌, ◌≢◌, ◌⊎◌, ℕ, ◌-◌, ◌<◌, Bool, true, false, cond, eqb, ◌&&◌, ◌||◌, List, ◌∷◌, get_or, set, refl, sym, ap, ◌∙◌, subst, inl, inr, ⊎_elim, eq-eqb, ne_eqb, arith}
-use Rattle.std.specs.Prelude.{nat_lt}
+use Rattle.std.proofs.Common.{◌≡◌, ◌≢◌, ◌⊎◌, ℕ, ◌-◌, ◌<◌, Bool, true, false, cond, eqb, ◌||◌, List, ◌∷◌, get_or, set, refl, sym, ap, ◌∙◌, subst, inl, inr, ⊎_elim, eq-eqb, ne_eqb, arith}
+use Rattle.std.proofs.lemmas.Bool.{or_cases, or_right, or_left}
 use mathlib.Core.Option.{some, none}
 use prog.Atomic.{either}
 use lib.ListN.{get_elem?}
@@ -11,8 +11,9 @@ use Rattle.nichols_core.specs.declared.event.Event.TheVariants.{Take}
 use Rattle.nichols_core.specs.Machine.{Machine, put_owed, take, stage_after_take, is_held_by, is_resumed_by, is_published}
 use Rattle.nichols_core.specs.SixLaws.{SixLaws, NonePicked, NoneLaid}
 use Rattle.nichols_core.specs.Runs.{one_if}
-use Rattle.nichols_core.proofs.Stages.{put_is, held_by, published, taken_parked}
+use Rattle.nichols_core.proofs.Stages.{put_is, held_by, taken_parked}
 use Rattle.nichols_core.proofs.Events.{every_event_keeps_the_six_laws}
+use Rattle.nichols_core.proofs.Conditions.{true_held}
 use Rattle.nichols_shelf.specs.Plan.{PlanValue}
 use Rattle.nichols_shelf.specs.Lists.{is_in}
 use Rattle.nichols_shelf.specs.Places.{blocks, edge, desk_place}
@@ -20,12 +21,12 @@ use Rattle.nichols_shelf.specs.Views.{take_view}
 use Rattle.nichols_shelf.specs.Words.{desk_word}
 use Rattle.nichols_shelf.specs.Seats.{is_made_by, tends, Knows}
 use Rattle.nichols_shelf.specs.Stands.{Tableau, Book, Stands, Holds}
-use Rattle.nichols_shelf.specs.Steps.{Mine, took}
+use Rattle.nichols_shelf.specs.Steps.{Mine, take_step}
 use Rattle.nichols_shelf.specs.declared.view.View.{View}
 use Rattle.nichols_shelf.proofs.Listed.{is_in-without}
-use Rattle.nichols_shelf.proofs.StageTests.{put_same, or_true, or_less, or_more, owed_of_other, owed_of_mine, held_self, held_taken, resumed_taken, published_taken, done_taken, held_was}
+use Rattle.nichols_shelf.proofs.StageTests.{put_same, owed_of_other, owed_of_mine, held_taken, resumed_taken, published_taken, done_taken, held_was}
 use Rattle.nichols_shelf.proofs.Desks.{IsLike, desk_step, edges_stay}
-use Rattle.nichols_shelf.proofs.SeatsKept.{Elsewhere, seats_step}
+use Rattle.nichols_shelf.proofs.SeatsKept.{Elsewhere, seats_step, made_stays, published_stays}
 use Rattle.nichols_shelf.proofs.SlotsKept.{SameEdges, slots_kept}
 
 like : (w : ℕ) (s : Stage) → IsLike s (stage_after_take w s)
@@ -72,10 +73,10 @@ module _ (g : PlanValue) (s : Tableau) (m : Machine) (laws : SixLaws g.layout.ed
   same_published = put_same m.stage b (stage_after_take v.worker (m.stage b)) is_published (published_taken v.worker (m.stage b))
 
   same_made : (u c : ℕ) → is_made_by g n book.maker u c ≡ is_made_by g m book.maker u c
-  same_made u c = ap (λ t. nat_lt c (blocks g) && (t && eqb (book.maker c) u)) (same_published c)
+  same_made = made_stays g m n book.maker same_published
 
   still_published : (c : ℕ) → m.stage c ≡ Published → n.stage c ≡ Published
-  still_published c e = published (n.stage c) (same_published c ∙ ap is_published e)
+  still_published = published_stays g m n book.maker same_published
 
   elsewhere : Elsewhere g v.worker m n book.maker book.maker
   elsewhere = record {
@@ -106,13 +107,13 @@ module _ (g : PlanValue) (s : Tableau) (m : Machine) (laws : SixLaws g.layout.ed
     picked = λ k. refl;
     tended = λ w c h. ⊎_elim
         (λ q. put_is m.stage b (stage_after_take v.worker (m.stage b)) c (λ t. t ≡ Held w → (tends g m book.maker w c ≡ true) ⊎ (NonePicked g.layout.edges m c × NoneLaid g.layout.edges m c))
-        (λ e p. ⊎_elim (λ was. inl (or_less (is_held_by w (m.stage c)) (is_made_by g m book.maker w c) (held_self w (m.stage c) (ap m.stage e ∙ was))))
+        (λ e p. ⊎_elim (λ was. inl (or_left (is_held_by w (m.stage c)) (is_made_by g m book.maker w c) (true_held w (m.stage c) (ap m.stage e ∙ was))))
         (λ ready. inr (laws.untouched c (subst Rattle.nichols_core.specs.SixLaws.IsWaiting (sym (ap m.stage e ∙ ready)) tt)))
         (held_was v.worker w (m.stage b) p))
-        (λ _ p. inl (or_less (is_held_by w (m.stage c)) (is_made_by g m book.maker w c) (held_self w (m.stage c) p)))
+        (λ _ p. inl (or_left (is_held_by w (m.stage c)) (is_made_by g m book.maker w c) (true_held w (m.stage c) p)))
         (held_by w (n.stage c) q))
-        (λ q. inl (or_more (is_held_by w (m.stage c)) (is_made_by g m book.maker w c) (sym (same_made w c) ∙ q)))
-        (or_true (is_held_by w (n.stage c)) (is_made_by g n book.maker w c) h);
+        (λ q. inl (or_right (is_held_by w (m.stage c)) (is_made_by g m book.maker w c) (sym (same_made w c) ∙ q)))
+        (or_cases (is_held_by w (n.stage c)) (is_made_by g n book.maker w c) h);
     drawn_held = λ w k in_k d. let r = st.slots.away k in_k d in
         put_is m.stage b (stage_after_take v.worker (m.stage b)) (edge g k).lower (λ t. is_held_by w t ≡ is_held_by w (m.stage (edge g k).lower))
         (λ e. ap (λ t. is_held_by w (stage_after_take v.worker t)) (ap m.stage (sym e) ∙ r.held) ∙ ap (is_held_by w) (sym r.held))
@@ -128,7 +129,7 @@ module _ (g : PlanValue) (s : Tableau) (m : Machine) (laws : SixLaws g.layout.ed
         (λ k _. edges_stay g s.words m st.words b inside word (stage_after_take v.worker (m.stage b)) (put_owed m.owes v.worker b false) k) refl (λ k _ _. refl) (λ k _ x e. e);
   }
 
-pub take_allowed : (g : PlanValue) (slots id : ℕ) (me : Mine) (b : ℕ) → b < blocks g → me.0.live ≡ true → Allows (Holds g) slots id me (desk_place b) (λ x. either (eqb x 0) 1 x) (took (step slots (desk_place b) 0 1 none) me)
+pub take_allowed : (g : PlanValue) (slots id : ℕ) (me : Mine) (b : ℕ) → b < blocks g → me.0.live ≡ true → Allows (Holds g) slots id me (desk_place b) (λ x. either (eqb x 0) 1 x) (take_step (step slots (desk_place b) 0 1 none) me)
 take_allowed g slots id me b inside live s h deep at word =
     let x = get_or s.words (desk_place b) 0 in
     let same : desk_place b - 1 ≡ b = omega arith in (

@@ -1,10 +1,11 @@
 -- What the calls answer, by the number that their step found.
 use Rattle.std.specs.Prelude.{◌≡◌, ℕ, ◌^◌, ◌<◌, Bool, true, false, ◌==◌, Some, None}
 use Rattle.std.specs.Int.{bit_at}
+use Rattle.nichols_tensor.specs.declared.TheConstants.{LETTER_LIMIT}
 use Rattle.nichols_core.specs.Conditions.{IsInto, IsOutOf}
 use Rattle.nichols_value.specs.declared.value.BlockValue.{BlockValue}
 use Rattle.nichols_shelf.specs.Plan.{PlanValue, IsRightFor}
-use Rattle.nichols_shelf.specs.Lists.{is_in, noted}
+use Rattle.nichols_shelf.specs.Lists.{is_in, noted_value}
 use Rattle.nichols_shelf.specs.Places.{edges, edge}
 use Rattle.nichols_shelf.specs.Views.{says_published, take_view, release_view, ask_view, publish_view, draw_view, lay_view, pick_view}
 use Rattle.nichols_shelf.specs.Words.{HasLetter}
@@ -49,7 +50,7 @@ pub record MayPick (g : PlanValue) (b a : ℕ) (v : View) : Type 0 where
   pub number : ℕ
   pub into : IsInto g.layout.edges b a number
   pub knows : is_in (edge g number).lower v.known ≡ true
-  pub unpicked : noted number v.picked ≡ None
+  pub unpicked : noted_value number v.picked ≡ None
 
 -- a pick of the edge of that letter into b: the value that the pass notes is right for the lower block
 pub record PicksUp (g : PlanValue) (b a : ℕ) (old new : View) (value : BlockValue) : Type 0 where
@@ -66,9 +67,9 @@ pub record MayLay (g : PlanValue) (b a : ℕ) (value : BlockValue) (v : View) : 
   pub picked : HasPickedAll g v b
   pub number : ℕ
   pub out_of : IsOutOf g.layout.edges b a number
-  pub unlaid : noted number v.laid ≡ None
+  pub unlaid : noted_value number v.laid ≡ None
   pub right : IsRightFor g b value
-  pub equal : (k : ℕ) (x : BlockValue) → k < edges g → (edge g k).lower ≡ b → noted k v.laid ≡ Some x → x ≡ value
+  pub equal : (k : ℕ) (x : BlockValue) → k < edges g → (edge g k).lower ≡ b → noted_value k v.laid ≡ Some x → x ≡ value
 
 -- a draw of the edge of that letter out of b, and then its laying with the value
 pub record LaysDown (g : PlanValue) (b a : ℕ) (old new : View) (value : BlockValue) : Type 0 where
@@ -88,6 +89,6 @@ pub record MayPublish (g : PlanValue) (b : ℕ) (v : View) : Type 0 where
 pub record PublishesWith (g : PlanValue) (b : ℕ) (old new : View) (answer : ℕ) : Type 0 where
   pub found : ℕ
   pub view : new ≡ publish_view g b found old
-  pub few : answer < 2 ^ 24
-  pub bits : (i : ℕ) → i < 24 → bit_at answer i ≡ bit_at found i
+  pub few : answer < 2 ^ LETTER_LIMIT
+  pub bits : (i : ℕ) → i < LETTER_LIMIT → bit_at answer i ≡ bit_at found i
   pub lettered : (i : ℕ) → bit_at answer i ≡ 1 → HasLetter g b i

@@ -2,7 +2,7 @@
 use Rattle.std.specs.Prelude.{◌≡◌, ℕ, suc, List, [], ◌∷◌}
 use Rattle.nichols_shelf.specs.Passes.{IsOf, view_of}
 use Rattle.nichols_shelf.specs.Settled.{HoldsNothing, ResumesNothing, OwesNothing}
-use Rattle.nichols_shelf.specs.Views.{merged}
+use Rattle.nichols_shelf.specs.Views.{joined_view}
 use Rattle.nichols_shelf.specs.declared.view.View.{View}
 use Rattle.nichols_shelf.specs.declared.pass.Pass.{Pass}
 use Rattle.nichols_shelf.specs.declared.shelf.Shelf.{Shelf}
@@ -13,9 +13,9 @@ AreNumbered s k [] = Unit {0}
 AreNumbered s k (p ∷ ps) = IsOf s p × ((view_of p).worker ≡ k) × HoldsNothing (view_of p) × ResumesNothing (view_of p) × AreNumbered s (suc k) ps
 
 -- what a pass knows after they were joined into it, in this order
-abbrev pub merged_all : View → List Pass → View
-merged_all v [] = v
-merged_all v (p ∷ ps) = merged_all (merged v (view_of p)) ps
+abbrev pub joined_views : View → List Pass → View
+joined_views v [] = v
+joined_views v (p ∷ ps) = joined_views (joined_view v (view_of p)) ps
 
 -- none of them owes anything
 abbrev pub OweNothing : List Pass → Type 0

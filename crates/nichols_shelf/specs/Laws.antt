@@ -13,13 +13,14 @@ use Rattle.nichols_value.specs.Worth.{worth}
 use Rattle.nichols_value.specs.declared.shared.Shared.{Shared}
 use Rattle.nichols_value.specs.declared.value.BlockValue.{BlockValue}
 use Rattle.nichols_shelf.specs.Plan.{PlanValue, IsRightFor}
-use Rattle.nichols_shelf.specs.Lists.{is_in, times_in, noted}
+use Rattle.nichols_shelf.specs.Lists.{is_in, times_in, noted_value}
 use Rattle.nichols_shelf.specs.Places.{blocks, edges, edge, desk_place, wait_place, edge_place}
-use Rattle.nichols_shelf.specs.Views.{take_view, release_view, ask_view, publish_view, draw_view, lay_view, pick_view, one_more, newcomer, merged, spent_view}
+use Rattle.nichols_shelf.specs.Views.{take_view, release_view, ask_view, publish_view, draw_view, lay_view, pick_view, one_more, newcomer, joined_view, spent_view}
 use Rattle.nichols_shelf.specs.Settled.{HoldsNothing, ResumesNothing}
 use Rattle.nichols_shelf.specs.Stands.{Tableau, Book, Stands, Holds}
 use Rattle.nichols_shelf.specs.Calls.{MayAsk, MayPick, MayLay, MayPublish}
 use Rattle.nichols_shelf.specs.declared.view.View.{View}
+use Rattle.nichols_shelf.specs.Passes.{stands_for}
 
 -- a table that stands for a state which meets the six laws, over a layout; the seat with this number has this live view
 pub record Stood (g : PlanValue) (s : Tableau) (m : Machine) (book : Book) (id : ℕ) (v : View) : Type 0 where
@@ -36,6 +37,28 @@ stepped_to s i word id v = record { words = slice_set s.words i word; homes = s.
 -- it stands for this state, by some book
 abbrev pub StandsFor : PlanValue → Tableau → Machine → Type 0
 StandsFor g s m = (book : Book) × Stands g s m book
+
+-- what a table says of blocks, workers and edges is the same in both states
+pub record AreAlike (g : PlanValue) (m n : Machine) : Type 0 where
+  pub stage : (b : ℕ) → b < blocks g → m.stage b ≡ n.stage b
+  pub owes : (w b : ℕ) → m.owes w b ≡ n.owes w b
+  pub laid : (k : ℕ) → k < edges g → m.laid k ≡ n.laid k
+  pub picked : (k : ℕ) → k < edges g → m.picked k ≡ n.picked k
+
+-- of the states that meet the six laws a table stands for one alone, which its words and views determine, wherever the slots are:
+-- each block has one stage by them
+abbrev pub ATableStandsForOneState : Type 0
+ATableStandsForOneState = (g : PlanValue) (s t : Tableau) (m n : Machine) → t.words ≡ s.words → t.views ≡ s.views → IsLayout g.layout → SixLaws g.layout.edges m → SixLaws g.layout.edges n
+    → StandsFor g s m → StandsFor g t n → AreAlike g m n
+
+-- all live views hold one plan, that of the shelf: its braid, layout, keys and rows limit
+abbrev pub LiveViewsHoldThePlan : Type 0
+LiveViewsHoldThePlan = (g : PlanValue) (s : Tableau) → Holds g s → (id : ℕ) (v : View) → get_elem? s.views id ≡ some v → v.live ≡ true → v.plan ≡ g
+
+-- two live passes never stand for the same worker number
+abbrev pub WorkerNumbersAreApart : Type 0
+WorkerNumbersAreApart = (g : PlanValue) (s : Tableau) → Holds g s → (i j : ℕ) (u v : View) → get_elem? s.views i ≡ some u → u.live ≡ true → get_elem? s.views j ≡ some v → v.live ≡ true
+    → (w : ℕ) → stands_for u w ≡ true → stands_for v w ≡ true → i ≡ j
 
 abbrev pub ATakeIsItsEvent : Type 0
 ATakeIsItsEvent = (g : PlanValue) (s : Tableau) (m : Machine) (book : Book) (id : ℕ) (v : View) → Stood g s m book id v → (b : ℕ) → b < blocks g
@@ -84,7 +107,7 @@ pub record IsInHand (g : PlanValue) (k : ℕ) (value : BlockValue) (v : View) : 
   pub holds : is_in (edge g k).lower v.held ≡ true
   pub drawn : is_in k v.drawn ≡ true
   pub right : IsRightFor g (edge g k).lower value
-  pub equal : (j : ℕ) (x : BlockValue) → j < edges g → (edge g j).lower ≡ (edge g k).lower → noted j v.laid ≡ Some x → x ≡ value
+  pub equal : (j : ℕ) (x : BlockValue) → j < edges g → (edge g j).lower ≡ (edge g k).lower → noted_value j v.laid ≡ Some x → x ≡ value
 
 -- the slot goes home with the value
 abbrev pub ALayingIsItsEvent : Type 0
@@ -101,20 +124,20 @@ ASplitLeavesTheState = (g : PlanValue) (s : Tableau) (m : Machine) (book : Book)
 abbrev pub AJoinPassesDebts : Type 0
 AJoinPassesDebts = (g : PlanValue) (s : Tableau) (m : Machine) (book : Book) (id : ℕ) (v : View) → Stood g s m book id v → v.worker ≡ 0
     → (other : ℕ) (u : View) → other ≢ id → get_elem? s.views other ≡ some u → u.live ≡ true → u.worker ≡ v.joined → HoldsNothing u → ResumesNothing u
-    → StandsFor g (record { words = s.words; homes = s.homes; views = slice_set (slice_set s.views id (merged v u)) other spent_view }) (take_over 0 u.worker m)
+    → StandsFor g (record { words = s.words; homes = s.homes; views = slice_set (slice_set s.views id (joined_view v u)) other spent_view }) (take_over 0 u.worker m)
 
 -- every value in a slot at home, and every value that a live view notes, is right for the edge's lower block
 abbrev pub ValuesAreRight : Type 0
 ValuesAreRight = (g : PlanValue) (s : Tableau) → Holds g s
     → ((k : ℕ) (shared : Shared) → k < edges g → get_elem? s.homes k ≡ some (some (Some shared)) → IsRightFor g (edge g k).lower (worth shared))
-    × ((id : ℕ) (v : View) (k : ℕ) (x : BlockValue) → get_elem? s.views id ≡ some v → v.live ≡ true → noted k v.picked ≡ Some x → IsRightFor g (edge g k).lower x)
-    × ((id : ℕ) (v : View) (k : ℕ) (x : BlockValue) → get_elem? s.views id ≡ some v → v.live ≡ true → noted k v.laid ≡ Some x → IsRightFor g (edge g k).lower x)
+    × ((id : ℕ) (v : View) (k : ℕ) (x : BlockValue) → get_elem? s.views id ≡ some v → v.live ≡ true → noted_value k v.picked ≡ Some x → IsRightFor g (edge g k).lower x)
+    × ((id : ℕ) (v : View) (k : ℕ) (x : BlockValue) → get_elem? s.views id ≡ some v → v.live ≡ true → noted_value k v.laid ≡ Some x → IsRightFor g (edge g k).lower x)
 
 -- a value of the block b: at home at an edge out of it, or noted by a live view as picked from one or as laid at one
 pub data IsShown (g : PlanValue) (s : Tableau) (b : ℕ) : BlockValue → Type 0 where
   at_home : (k : ℕ) (shared : Shared) → k < edges g → (edge g k).lower ≡ b → get_elem? s.homes k ≡ some (some (Some shared)) → IsShown g s b (worth shared)
-  as_picked : (id : ℕ) (v : View) (k : ℕ) (x : BlockValue) → get_elem? s.views id ≡ some v → v.live ≡ true → (edge g k).lower ≡ b → noted k v.picked ≡ Some x → IsShown g s b x
-  as_laid : (id : ℕ) (v : View) (k : ℕ) (x : BlockValue) → get_elem? s.views id ≡ some v → v.live ≡ true → (edge g k).lower ≡ b → noted k v.laid ≡ Some x → IsShown g s b x
+  as_picked : (id : ℕ) (v : View) (k : ℕ) (x : BlockValue) → get_elem? s.views id ≡ some v → v.live ≡ true → (edge g k).lower ≡ b → noted_value k v.picked ≡ Some x → IsShown g s b x
+  as_laid : (id : ℕ) (v : View) (k : ℕ) (x : BlockValue) → get_elem? s.views id ≡ some v → v.live ≡ true → (edge g k).lower ≡ b → noted_value k v.laid ≡ Some x → IsShown g s b x
 
 -- so no block has two values
 abbrev pub ABlockHasOneValue : Type 0

@@ -1,30 +1,27 @@
--- what the shelf stands on, and what a pass knows
+-- what public contracts cite: what the shelf stands on, what a pass knows, the calls
 pub mod Plan
 pub mod Lists
 pub mod Places
 pub mod Views
--- what its words, seats and slots stand for
+pub mod Passes
+pub mod Calls
+pub mod Settled
+pub mod Joining
+pub mod Closed
+pub mod Laws
+-- what words, seats and slots stand for: the rule of the table, of which the laws speak
 pub mod Words
 pub mod Seats
 pub mod Slots
 pub mod Stands
--- the steps
+-- what this crate's own functions and types cite
 pub mod Steps
 pub mod Out
-pub mod Settled
--- what is kept
+pub mod Moves
 pub mod Owed
 pub mod Stored
 pub mod Tables
 pub mod Ended
--- shelves and passes
-pub mod Passes
-pub mod Joining
-pub mod Calls
-pub mod Moves
--- the laws
-pub mod Laws
-pub mod Closed
--- for the tests
+-- for callers that mark what a pass knows, and for the tests
 pub mod Played
 pub mod Alone

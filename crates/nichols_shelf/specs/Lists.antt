@@ -23,6 +23,6 @@ below zero = []
 below (suc n) = n ∷ below n
 
 -- the value that stands beside the number
-abbrev pub noted : ℕ → List (ℕ × BlockValue) → Option BlockValue
-noted k [] = None
-noted k (x ∷ xs) = if k == x.0 then Some x.1 else noted k xs
+abbrev pub noted_value : ℕ → List (ℕ × BlockValue) → Option BlockValue
+noted_value k [] = None
+noted_value k (x ∷ xs) = if k == x.0 then Some x.1 else noted_value k xs

@@ -1,7 +1,7 @@
 -- The slots that are out with a pass between its calls.
 use Rattle.std.specs.Prelude.{ℕ, Bool, true, not, nat_lt, ◌&&◌, List, [], ◌∷◌, Option, is_some}
 use Rattle.nichols_value.specs.declared.shared.Shared.{Shared}
-use Rattle.nichols_shelf.specs.Lists.{is_in, noted}
+use Rattle.nichols_shelf.specs.Lists.{is_in, noted_value}
 use Rattle.nichols_shelf.specs.Places.{edge, edges}
 use Rattle.nichols_shelf.specs.declared.view.View.{View}
 
@@ -9,4 +9,4 @@ use Rattle.nichols_shelf.specs.declared.view.View.{View}
 abbrev pub are_picked : View → List (ℕ × Option Shared) → Bool
 are_picked v [] = true
 are_picked v (x ∷ xs) =
-    (not (is_some x.1) && (nat_lt x.0 (edges v.plan) && (is_some (noted x.0 v.picked) && is_in (edge v.plan x.0).upper v.held))) && are_picked v xs
+    (not (is_some x.1) && (nat_lt x.0 (edges v.plan) && (is_some (noted_value x.0 v.picked) && is_in (edge v.plan x.0).upper v.held))) && are_picked v xs

@@ -1,7 +1,7 @@
 -- Shelves and passes as their callers see them.
 use Rattle.std.specs.Prelude.{◌≡◌, ℕ, ◌<◌, Bool, true, nat_lt, ◌==◌, if◌then◌else◌, None, is_some}
 use Rattle.nichols_shelf.specs.Plan.{PlanValue}
-use Rattle.nichols_shelf.specs.Lists.{noted}
+use Rattle.nichols_shelf.specs.Lists.{noted_value}
 use Rattle.nichols_shelf.specs.Places.{edges, edge}
 use Rattle.nichols_shelf.specs.declared.view.View.{View}
 use Rattle.nichols_shelf.specs.declared.pass.Pass.{Pass}
@@ -25,10 +25,10 @@ stands_for v w = if v.worker == 0 then nat_lt w v.joined else w == v.worker
 
 -- all edges into the block are noted as picked, or none is; all edges out of it are noted as laid
 abbrev pub HasPickedAll : PlanValue → View → ℕ → Type 0
-HasPickedAll g v b = (k : ℕ) → k < edges g → (edge g k).upper ≡ b → is_some (noted k v.picked) ≡ true
+HasPickedAll g v b = (k : ℕ) → k < edges g → (edge g k).upper ≡ b → is_some (noted_value k v.picked) ≡ true
 
 abbrev pub HasPickedNone : PlanValue → View → ℕ → Type 0
-HasPickedNone g v b = (k : ℕ) → k < edges g → (edge g k).upper ≡ b → noted k v.picked ≡ None
+HasPickedNone g v b = (k : ℕ) → k < edges g → (edge g k).upper ≡ b → noted_value k v.picked ≡ None
 
 abbrev pub HasLaidAll : PlanValue → View → ℕ → Type 0
-HasLaidAll g v b = (k : ℕ) → k < edges g → (edge g k).lower ≡ b → is_some (noted k v.laid) ≡ true
+HasLaidAll g v b = (k : ℕ) → k < edges g → (edge g k).lower ≡ b → is_some (noted_value k v.laid) ≡ true

@@ -1,9 +1,12 @@
--- What a player of the tests marks, so that it can ask at run time whether a call is allowed.
+-- What a caller marks of a pass, so that it can ask at run time whether a call is allowed.
 use Rattle.std.specs.Prelude.{◌≡◌, ℕ, Bool, true, false, List, [], length, slice_index_or, Some, is_some}
 use Rattle.nichols_value.specs.declared.value.BlockValue.{BlockValue}
 use Rattle.nichols_value.specs.declared.value.BlockValue.TheVariants.{Starved}
-use Rattle.nichols_shelf.specs.Lists.{is_in, noted}
+use Rattle.nichols_shelf.specs.Lists.{is_in, noted_value}
 use Rattle.nichols_shelf.specs.Places.{blocks, edges}
+use Rattle.nichols_shelf.specs.Passes.{IsOf, view_of}
+use Rattle.nichols_shelf.specs.declared.pass.Pass.{Pass}
+use Rattle.nichols_shelf.specs.declared.shelf.Shelf.{Shelf}
 use Rattle.nichols_shelf.specs.declared.view.View.{View}
 
 -- the mark with this number, and none past the end
@@ -21,13 +24,17 @@ pub record Mirrors (held resumed known picked laid : List Bool) (v : View) : Typ
   pub holds : (b : ℕ) → mark held b ≡ is_in b v.held
   pub resumes : (b : ℕ) → mark resumed b ≡ is_in b v.resumed
   pub knows : (b : ℕ) → mark known b ≡ true → is_in b v.known ≡ true
-  pub picks : (k : ℕ) → mark picked k ≡ is_some (noted k v.picked)
-  pub lays : (k : ℕ) → mark laid k ≡ is_some (noted k v.laid)
-  pub starved : (k : ℕ) (x : BlockValue) → noted k v.laid ≡ Some x → x ≡ Starved
+  pub picks : (k : ℕ) → mark picked k ≡ is_some (noted_value k v.picked)
+  pub lays : (k : ℕ) → mark laid k ≡ is_some (noted_value k v.laid)
+  pub starved : (k : ℕ) (x : BlockValue) → noted_value k v.laid ≡ Some x → x ≡ Starved
 
 -- the worker number, how many passes there have been, and for whom worker 0 stands are as they were
 abbrev pub KeepsNumbers : View → View → Type 0
 KeepsNumbers v w = (w.worker ≡ v.worker) × (w.passes ≡ v.passes) × (w.joined ≡ v.joined)
+
+-- a pass of the shelf is one of it still, and has its numbers
+abbrev pub StaysOf : Shelf → Pass → Pass → Type 0
+StaysOf s old new = IsOf s new × KeepsNumbers (view_of old) (view_of new)
 
 -- the pass holds and resumes nothing, and has picked and laid nothing
 abbrev pub IsFresh : View → Type 0

@@ -3,7 +3,7 @@ use Rattle.std.specs.Prelude.{◌≡◌, ℕ, ◌<◌, true, false, List, slice_
 use Rattle.std.specs.Int.{bit_at}
 use Rattle.nichols_value.specs.declared.value.BlockValue.{BlockValue}
 use Rattle.nichols_shelf.specs.Plan.{PlanValue, IsRightFor}
-use Rattle.nichols_shelf.specs.Lists.{is_in, times_in, noted}
+use Rattle.nichols_shelf.specs.Lists.{is_in, times_in, noted_value}
 use Rattle.nichols_shelf.specs.Places.{blocks, edges, edge, wait_place}
 use Rattle.nichols_shelf.specs.declared.view.View.{View}
 
@@ -21,9 +21,9 @@ OwesNothing v = (b : ℕ) → b < blocks v.plan → is_in b v.owed ≡ false
 -- right for the block and the same at all its edges
 pub record IsSettled (g : PlanValue) (v : View) : Type 0 where
   pub all : OwesNothing v → (b : ℕ) → b < blocks g → times_in b v.made ≡ 1
-  pub values : (k : ℕ) → k < edges g → times_in (edge g k).lower v.made ≡ 1 → is_some (noted k v.laid) ≡ true
-  pub right : (k : ℕ) (x : BlockValue) → noted k v.laid ≡ Some x → IsRightFor g (edge g k).lower x
-  pub equal : (j k : ℕ) (x y : BlockValue) → (edge g j).lower ≡ (edge g k).lower → noted j v.laid ≡ Some x → noted k v.laid ≡ Some y → x ≡ y
+  pub values : (k : ℕ) → k < edges g → times_in (edge g k).lower v.made ≡ 1 → is_some (noted_value k v.laid) ≡ true
+  pub right : (k : ℕ) (x : BlockValue) → noted_value k v.laid ≡ Some x → IsRightFor g (edge g k).lower x
+  pub equal : (j k : ℕ) (x y : BlockValue) → (edge g j).lower ≡ (edge g k).lower → noted_value j v.laid ≡ Some x → noted_value k v.laid ≡ Some y → x ≡ y
 
 -- the last bits of the wait words say which blocks the pass made
 abbrev pub SayWhatIsMade : PlanValue → List ℕ → View → Type 0

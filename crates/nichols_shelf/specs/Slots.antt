@@ -11,7 +11,7 @@ use Rattle.nichols_value.specs.Worth.{worth}
 use Rattle.nichols_value.specs.declared.shared.Shared.{Shared}
 use Rattle.nichols_value.specs.declared.value.BlockValue.{BlockValue}
 use Rattle.nichols_shelf.specs.Plan.{PlanValue, IsRightFor}
-use Rattle.nichols_shelf.specs.Lists.{is_in, noted}
+use Rattle.nichols_shelf.specs.Lists.{is_in, noted_value}
 use Rattle.nichols_shelf.specs.Places.{edges, edge, edge_place}
 use Rattle.nichols_shelf.specs.Seats.{tends}
 use Rattle.nichols_shelf.specs.declared.view.View.{View}
@@ -37,10 +37,10 @@ pub record IsDrawn (g : PlanValue) (homes : List (table.Option (std.Option Share
 -- what a live view notes: each edge that it notes was picked, or laid, with its lower block's value; of the blocks that its worker
 -- holds or made it notes every edge that is picked, or laid; and it lists the drawn edges out of those that its worker holds
 pub record Notes (g : PlanValue) (m : Machine) (maker : ℕ → ℕ) (value : ℕ → BlockValue) (drawn : ℕ → Bool) (v : View) : Type 0 where
-  pub picked : (k : ℕ) (x : BlockValue) → noted k v.picked ≡ Some x → (k < edges g) × (m.picked k ≡ true) × (x ≡ value (edge g k).lower)
-  pub picks : (k : ℕ) → k < edges g → tends g m maker v.worker (edge g k).upper ≡ true → m.picked k ≡ true → is_some (noted k v.picked) ≡ true
-  pub laid : (k : ℕ) (x : BlockValue) → noted k v.laid ≡ Some x → (k < edges g) × (m.laid k ≡ true) × (x ≡ value (edge g k).lower)
-  pub lays : (k : ℕ) → k < edges g → tends g m maker v.worker (edge g k).lower ≡ true → m.laid k ≡ true → is_some (noted k v.laid) ≡ true
+  pub picked : (k : ℕ) (x : BlockValue) → noted_value k v.picked ≡ Some x → (k < edges g) × (m.picked k ≡ true) × (x ≡ value (edge g k).lower)
+  pub picks : (k : ℕ) → k < edges g → tends g m maker v.worker (edge g k).upper ≡ true → m.picked k ≡ true → is_some (noted_value k v.picked) ≡ true
+  pub laid : (k : ℕ) (x : BlockValue) → noted_value k v.laid ≡ Some x → (k < edges g) × (m.laid k ≡ true) × (x ≡ value (edge g k).lower)
+  pub lays : (k : ℕ) → k < edges g → tends g m maker v.worker (edge g k).lower ≡ true → m.laid k ≡ true → is_some (noted_value k v.laid) ≡ true
   pub draws : (k : ℕ) → k < edges g → is_in k v.drawn ≡ (drawn k && is_held_by v.worker (m.stage (edge g k).lower))
 
 -- a slot is at home with its lower block's value where the edge is laid and not picked, and at home without one where it is neither

@@ -25,28 +25,28 @@ abbrev pub value_out : List (ℕ × Option Shared) → BlockValue
 value_out [] = Starved
 value_out (x ∷ xs) = value_in x.1
 
-abbrev pub took : Step (Option Shared) → Mine → ℕ → Mine → Type 0
-took st m found n = n ≡ (take_view (st.word - 1) found m.0, m.1)
+abbrev pub take_step : Step (Option Shared) → Mine → ℕ → Mine → Type 0
+take_step st m found n = n ≡ (take_view (st.word - 1) found m.0, m.1)
 
-abbrev pub released : Step (Option Shared) → Mine → ℕ → Mine → Type 0
-released st m found n = n ≡ (release_view (st.word - 1) found m.0, m.1)
+abbrev pub release_step : Step (Option Shared) → Mine → ℕ → Mine → Type 0
+release_step st m found n = n ≡ (release_view (st.word - 1) found m.0, m.1)
 
 -- the step is that of the edge with number k, in whose lower block's wait word it sets the bit of its letter
-abbrev pub asked : Step (Option Shared) → Mine → ℕ → Mine → Type 0
-asked st m found n = (k : ℕ) → k < edges m.0.plan → st.word ≡ wait_place m.0.plan (edge m.0.plan k).lower → st.first ≡ 2 ^ ((edge m.0.plan k).letter - 1) → n ≡ (ask_view m.0.plan k found m.0, m.1)
+abbrev pub ask_step : Step (Option Shared) → Mine → ℕ → Mine → Type 0
+ask_step st m found n = (k : ℕ) → k < edges m.0.plan → st.word ≡ wait_place m.0.plan (edge m.0.plan k).lower → st.first ≡ 2 ^ ((edge m.0.plan k).letter - 1) → n ≡ (ask_view m.0.plan k found m.0, m.1)
 
 -- all empty slots go home; and each bit of the word but the last is one of an edge out of the block
-abbrev pub published : Step (Option Shared) → Mine → ℕ → Mine → Type 0
-published st m found n =
+abbrev pub publish_step : Step (Option Shared) → Mine → ℕ → Mine → Type 0
+publish_step st m found n =
     let b = st.word - (1 + blocks m.0.plan) in
     (n ≡ (publish_view m.0.plan b found m.0, [])) × ((i : ℕ) → i ≢ 63 → bit_at found i ≡ 1 → HasLetter m.0.plan b i)
 
-abbrev pub drew : Step (Option Shared) → Mine → ℕ → Mine → Type 0
-drew st m found n = let k = st.word - (1 + 2 * blocks m.0.plan) in n ≡ (draw_view m.0.plan k found m.0, (k, None) ∷ m.1)
+abbrev pub draw_step : Step (Option Shared) → Mine → ℕ → Mine → Type 0
+draw_step st m found n = let k = st.word - (1 + 2 * blocks m.0.plan) in n ≡ (draw_view m.0.plan k found m.0, (k, None) ∷ m.1)
 
 -- the slot that was taken last goes home, with what was written into it
-abbrev pub laid : Step (Option Shared) → Mine → ℕ → Mine → Type 0
-laid st m found n = n ≡ (lay_view m.0.plan (st.word - (1 + 2 * blocks m.0.plan)) (value_out m.1) found m.0, rest m.1)
+abbrev pub lay_step : Step (Option Shared) → Mine → ℕ → Mine → Type 0
+lay_step st m found n = n ≡ (lay_view m.0.plan (st.word - (1 + 2 * blocks m.0.plan)) (value_out m.1) found m.0, rest m.1)
 
-abbrev pub picked : Step (Option Shared) → Mine → ℕ → Mine → Type 0
-picked st m found n = let k = st.word - (1 + 2 * blocks m.0.plan) in (x : Shared) × (n ≡ (pick_view m.0.plan k (worth x) found m.0, (k, Some x) ∷ m.1)) × IsRightFor m.0.plan (edge m.0.plan k).lower (worth x)
+abbrev pub pick_step : Step (Option Shared) → Mine → ℕ → Mine → Type 0
+pick_step st m found n = let k = st.word - (1 + 2 * blocks m.0.plan) in (x : Shared) × (n ≡ (pick_view m.0.plan k (worth x) found m.0, (k, Some x) ∷ m.1)) × IsRightFor m.0.plan (edge m.0.plan k).lower (worth x)

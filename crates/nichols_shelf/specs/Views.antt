@@ -21,8 +21,8 @@ abbrev pub newcomer : View → View
 newcomer v = record { live = true; worker = v.passes; passes = 1; joined = 1; plan = v.plan; held = []; resumed = []; owed = []; known = []; made = []; drawn = []; picked = []; laid = []; seen = [] }
 
 -- after a join: the pass that was kept, and the one that was joined into it
-abbrev pub merged : View → View → View
-merged v u = record v { joined = v.joined + 1; owed = v.owed ++ u.owed; known = v.known ++ u.known; made = v.made ++ u.made; picked = v.picked ++ u.picked; laid = v.laid ++ u.laid }
+abbrev pub joined_view : View → View → View
+joined_view v u = record v { joined = v.joined + 1; owed = v.owed ++ u.owed; known = v.known ++ u.known; made = v.made ++ u.made; picked = v.picked ++ u.picked; laid = v.laid ++ u.laid }
 
 -- what is left of it; its plan says nothing
 abbrev pub no_plan : PlanValue

@@ -29,63 +29,63 @@ pub(crate) type Place = Seat<Slot, View>;
 pub(crate) struct Take;
 
 impl Play<Slot, View> for Take {
-    ghost use Rattle.nichols_shelf.specs.Steps.{took};
+    ghost use Rattle.nichols_shelf.specs.Steps.{take_step};
 
-    ghost then = { took };
+    ghost then = { take_step };
 }
 
 /// A swap of a desk word, from taken to ready.
 pub(crate) struct Release;
 
 impl Play<Slot, View> for Release {
-    ghost use Rattle.nichols_shelf.specs.Steps.{released};
+    ghost use Rattle.nichols_shelf.specs.Steps.{release_step};
 
-    ghost then = { released };
+    ghost then = { release_step };
 }
 
 /// A bit that is set in the wait word of the lower block of an edge.
 pub(crate) struct Ask;
 
 impl Play<Slot, View> for Ask {
-    ghost use Rattle.nichols_shelf.specs.Steps.{asked};
+    ghost use Rattle.nichols_shelf.specs.Steps.{ask_step};
 
-    ghost then = { asked };
+    ghost then = { ask_step };
 }
 
 /// The last bit, set in the wait word of a block.
 pub(crate) struct Publish;
 
 impl Play<Slot, View> for Publish {
-    ghost use Rattle.nichols_shelf.specs.Steps.{published};
+    ghost use Rattle.nichols_shelf.specs.Steps.{publish_step};
 
-    ghost then = { published };
+    ghost then = { publish_step };
 }
 
 /// A swap of an edge's word by which its empty slot comes out.
 pub(crate) struct Draw;
 
 impl Play<Slot, View> for Draw {
-    ghost use Rattle.nichols_shelf.specs.Steps.{drew};
+    ghost use Rattle.nichols_shelf.specs.Steps.{draw_step};
 
-    ghost then = { drew };
+    ghost then = { draw_step };
 }
 
 /// A swap of an edge's word by which its slot goes home with a value.
 pub(crate) struct Lay;
 
 impl Play<Slot, View> for Lay {
-    ghost use Rattle.nichols_shelf.specs.Steps.{laid};
+    ghost use Rattle.nichols_shelf.specs.Steps.{lay_step};
 
-    ghost then = { laid };
+    ghost then = { lay_step };
 }
 
 /// A swap of an edge's word by which its slot comes out with a value.
 pub(crate) struct Pick;
 
 impl Play<Slot, View> for Pick {
-    ghost use Rattle.nichols_shelf.specs.Steps.{picked};
+    ghost use Rattle.nichols_shelf.specs.Steps.{pick_step};
 
-    ghost then = { picked };
+    ghost then = { pick_step };
 }
 
 /// A new worker beside worker 0.
@@ -103,9 +103,9 @@ impl Split<View> for Newcomer {
 pub(crate) struct Return;
 
 impl Join<View> for Return {
-    ghost use Rattle.nichols_shelf.specs.Views.{merged, spent_view};
+    ghost use Rattle.nichols_shelf.specs.Views.{joined_view, spent_view};
 
-    ghost both = { merged };
+    ghost both = { joined_view };
 
     ghost spent = { spent_view };
 }

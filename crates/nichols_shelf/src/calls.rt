@@ -1,6 +1,7 @@
 //! The steps that a pass makes on the words of blocks.
 
 ghost use Rattle.std.specs.Prelude.{◌≡◌, ℕ, ◌+◌, ◌-◌, ◌^◌, ◌<◌, ◌≤◌, true};
+ghost use Rattle.nichols_tensor.specs.declared.TheConstants.{LETTER_LIMIT};
 ghost use Rattle.nichols_core.specs.Layout.{IsPlaced};
 ghost use Rattle.nichols_core.specs.Conditions.{IsInto, IsOutOf};
 ghost use Rattle.nichols_shelf.specs.Lists.{is_in};
@@ -15,6 +16,7 @@ use crate::pass::Pass;
 use crate::shelf::Shelf;
 use crate::tables::letter_place;
 use nichols_core::Edge;
+use nichols_tensor::LETTER_LIMIT;
 
 const READY: u64 = 0;
 
@@ -24,7 +26,7 @@ const TAKEN: u64 = 1;
 const PUBLISHED: u64 = 1 << 63;
 
 /// Above the bits of all letters.
-const LETTERS_END: u64 = 1 << 24;
+const LETTERS_END: u64 = 1 << LETTER_LIMIT;
 
 impl Shelf {
     /// Holds the block, where it is ready: `false` exactly where the step found that it isn't. In both cases the pass no longer
@@ -130,7 +132,7 @@ impl Shelf {
 /// The bit of a letter in a wait word.
 fn letter_bit(letter: u8) -> u64
     requires from { 1 ≤ letter }
-    requires to { letter ≤ 24 }
+    requires to { letter ≤ LETTER_LIMIT }
     ensures { result ≡ 2 ^ (letter - 1) }
 {
     1 << (letter - 1)

@@ -2,7 +2,7 @@
 
 ghost use Rattle.std.specs.Prelude.{◌≡◌, ◌+◌, length, IfOk};
 ghost use Rattle.nichols_shelf.specs.Closed.{plan_in, last_view, IsAllPublished};
-ghost use Rattle.nichols_shelf.specs.Joining.{AreNumbered, OweNothing, merged_all};
+ghost use Rattle.nichols_shelf.specs.Joining.{AreNumbered, OweNothing, joined_views};
 ghost use Rattle.nichols_shelf.specs.Passes.{IsOf, plan_of, view_of};
 ghost use Rattle.nichols_shelf.specs.Settled.{HoldsNothing, ResumesNothing, OwesNothing, IsSettled};
 
@@ -18,7 +18,7 @@ impl Shelf {
         requires zeroth { (view_of pass.old).worker ≡ 0 }
         requires numbered { AreNumbered self.now (view_of pass.old).joined others.items }
         ensures pass { IsOf self.now pass.new }
-        ensures view { view_of pass.new ≡ merged_all (view_of pass.old) others.items }
+        ensures view { view_of pass.new ≡ joined_views (view_of pass.old) others.items }
         ensures zeroth { (view_of pass.new).worker ≡ 0 }
         ensures joined { (view_of pass.new).joined ≡ (view_of pass.old).joined + length others.items }
         ensures passes { (view_of pass.new).passes ≡ (view_of pass.old).passes }
@@ -46,8 +46,8 @@ impl Shelf {
         requires holds { HoldsNothing (view_of pass) }
         requires resumes { ResumesNothing (view_of pass) }
         ensures plan { IfOk result (λ c. plan_in c ≡ plan_of self) }
-        ensures view { IfOk result (λ c. last_view c ≡ merged_all (view_of pass) others.items) }
-        ensures settled { IfOk result (λ c. IsSettled (plan_of self) (merged_all (view_of pass) others.items)) }
+        ensures view { IfOk result (λ c. last_view c ≡ joined_views (view_of pass) others.items) }
+        ensures settled { IfOk result (λ c. IsSettled (plan_of self) (joined_views (view_of pass) others.items)) }
         ensures all { IfOk result (λ c. OwesNothing (view_of pass) → OweNothing others.items → IsAllPublished c) }
     {
         self.join_all(&mut pass, others);

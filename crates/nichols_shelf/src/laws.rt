@@ -1,7 +1,23 @@
-//! The laws of the shelf, each the contract of a function that does nothing. The first nine say what each kind of step does to the
-//! state for which words, slots and views stand; the others what these show in every such state.
+//! The laws of the shelf, each the contract of a function that does nothing. The first three say that words and views stand for
+//! one state, that all live passes hold one plan, and each worker numbers of its own; the next nine what each kind of step does to that state; the others
+//! what words, slots and views show in every such state.
 
-ghost use Rattle.nichols_shelf.specs.Laws.{ATakeIsItsEvent, AReleaseIsItsEvent, AnAskIsItsEvent, APublicationIsItsEvent, APickIsItsEvent, ADrawLeavesTheState, ALayingIsItsEvent, ASplitLeavesTheState, AJoinPassesDebts, ValuesAreRight, ABlockHasOneValue, APublishedBlockWasMadeOnce, NothingElseWasMade};
+ghost use Rattle.nichols_shelf.specs.Laws.{ATableStandsForOneState, LiveViewsHoldThePlan, WorkerNumbersAreApart, ATakeIsItsEvent, AReleaseIsItsEvent, AnAskIsItsEvent, APublicationIsItsEvent, APickIsItsEvent, ADrawLeavesTheState, ALayingIsItsEvent, ASplitLeavesTheState, AJoinPassesDebts, ValuesAreRight, ABlockHasOneValue, APublishedBlockWasMadeOnce, NothingElseWasMade};
+
+/// Words and views stand for one state alone of those that meet the six laws, wherever the slots are: each block has one stage by them.
+pub fn a_table_stands_for_one_state()
+    ensures { ATableStandsForOneState }
+{}
+
+/// All live passes hold one plan, that of the shelf: its braid, layout, keys and rows limit.
+pub fn live_views_hold_the_plan()
+    ensures { LiveViewsHoldThePlan }
+{}
+
+/// Two live passes never stand for the same worker number.
+pub fn worker_numbers_are_apart()
+    ensures { WorkerNumbersAreApart }
+{}
 
 /// A take changes the state as the event Take does.
 pub fn a_take_is_its_event()

@@ -12,7 +12,7 @@ use crate::plan::Plan;
 use crate::shelf::Shelf;
 use crate::tables::{entries, exits};
 use atomic_table::Table;
-use nichols_braid::Braid;
+use nichols_block::Levels;
 use nichols_core::Layout;
 use nichols_value::BlockKey;
 use std::alloc::{AllocError, Global};
@@ -20,20 +20,20 @@ use std::alloc::{AllocError, Global};
 impl Shelf {
     /// A shelf of these blocks, with the pass of worker 0, who owes all of them.
     ///
-    /// `keys` has the key of each block, in block order. The braid says which values are right for a key.
+    /// `keys` has the key of each block, in block order. The braid is that of `base`, and says which values are right for a key.
     pub fn start(
         alloc: Global,
         layout: Layout,
         keys: Vec<BlockKey>,
         rows_limit: u32,
-        braid: &Braid,
+        base: &Levels,
     ) -> Result<(Shelf, Pass), AllocError>
         requires { vec_len keys ≡ length layout.degrees }
         ensures pass { IfOk result (λ r. IsOf r.0 r.1) }
-        ensures plan { IfOk result (λ r. plan_of r.0 ≡ record { braid = braid.now; layout = layout; keys = keys.items; rows_limit = rows_limit }) }
+        ensures plan { IfOk result (λ r. plan_of r.0 ≡ record { braid = base.now.braid; layout = layout; keys = keys.items; rows_limit = rows_limit }) }
         ensures view { IfOk result (λ r. view_of r.1 ≡ first_view (plan_of r.0)) }
     {
-        let kept = braid.copy(alloc)?;
+        let kept = base.braid().copy(alloc)?;
         let (blocks, edges) = counts(&layout);
         let entries = entries(alloc, &layout)?;
         let exits = exits(alloc, &layout)?;

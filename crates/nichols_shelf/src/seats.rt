@@ -3,7 +3,7 @@
 ghost use Rattle.std.specs.Prelude.{◌≡◌, ◌+◌, ◌^◌, ◌<◌, IfOk, IfErr};
 ghost use Rattle.nichols_shelf.specs.Passes.{IsOf, view_of};
 ghost use Rattle.nichols_shelf.specs.Settled.{HoldsNothing, ResumesNothing};
-ghost use Rattle.nichols_shelf.specs.Views.{one_more, newcomer, merged};
+ghost use Rattle.nichols_shelf.specs.Views.{one_more, newcomer, joined_view};
 
 use crate::board::{Newcomer, Return};
 use crate::owed::Owed;
@@ -44,7 +44,7 @@ impl Shelf {
         requires holds { HoldsNothing (view_of other) }
         requires resumes { ResumesNothing (view_of other) }
         ensures pass { IsOf self.now pass.new }
-        ensures view { view_of pass.new ≡ merged (view_of pass.old) (view_of other) }
+        ensures view { view_of pass.new ≡ joined_view (view_of pass.old) (view_of other) }
     {
         let Pass {
             place,

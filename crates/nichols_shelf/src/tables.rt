@@ -1,14 +1,16 @@
 //! Tables that find an edge by its letter at a block.
 
 ghost use Rattle.std.specs.Prelude.{◌≡◌, ◌+◌, ◌-◌, ◌*◌, ◌<◌, ◌≤◌, length, IfOk};
+ghost use Rattle.nichols_tensor.specs.declared.TheConstants.{LETTER_LIMIT};
 ghost use Rattle.nichols_core.specs.Layout.{IsLayout};
 ghost use Rattle.nichols_shelf.specs.Tables.{FindsEntries, FindsExits, letter_place};
 
 use nichols_core::Layout;
+use nichols_tensor::LETTER_LIMIT;
 use std::alloc::{AllocError, Global};
 
 /// How many letters a block may have.
-const LETTERS: usize = 24;
+const LETTERS: usize = LETTER_LIMIT as usize;
 
 /// Has the number of each edge at its upper block and letter.
 pub(crate) fn entries(alloc: Global, layout: &Layout) -> Result<Vec<usize>, AllocError>
@@ -36,7 +38,7 @@ pub(crate) fn exits(alloc: Global, layout: &Layout) -> Result<Vec<usize>, AllocE
 
 /// How many places a table has: one for each block and letter.
 fn places(layout: &Layout) -> usize
-    ensures size { result ≡ length layout.now.degrees * 24 }
+    ensures size { result ≡ length layout.now.degrees * LETTER_LIMIT }
     ensures rules { IsLayout layout.now }
 {
     layout.meets_its_rules();

@@ -5,7 +5,7 @@ mod ruled;
 mod setting;
 mod threads;
 
-ghost use Rattle.std.specs.Prelude.{◌≡◌, ◌+◌, ◌<◌, IfOk};
+ghost use Rattle.std.specs.Prelude.{◌≡◌, ◌+◌, ◌<◌, suc, IfOk};
 ghost use Rattle.nichols_shelf.specs.Closed.{plan_in};
 ghost use Rattle.nichols_shelf.specs.Settled.{HoldsNothing, ResumesNothing};
 ghost use Rattle.nichols_shelf.specs.Passes.{IsOf, plan_of, view_of};
@@ -20,9 +20,8 @@ use crate::tests::ruled::{
 use crate::tests::setting::{Dice, Pure, random_layout, shelf_over, two_blocks};
 use crate::{Asked, Closed, Pass, Shelf};
 use nichols_block::Levels;
-use nichols_braid::{Braid, Scalars};
 use nichols_core::Stage;
-use nichols_field::Field;
+use nichols_testing::one_letter;
 use nichols_value::Shared;
 use std::alloc::{AllocError, Global};
 use std::process::Abort;
@@ -123,6 +122,42 @@ fn closed_by_two<R: Abort>(
     shelf.settle(alloc, pass_of(zero), others)
 }
 
+/// Joins the workers 1, 2 and 3 into worker 0, and closes the shelf.
+fn closed_by_four<R: Abort>(
+    rt: &R,
+    alloc: Global,
+    shelf: Shelf,
+    zero: Player,
+    one: Player,
+    two: Player,
+    three: Player,
+) -> Result<Closed, AllocError>
+    requires zero { IsOf shelf zero.pass }
+    requires one { IsOf shelf one.pass }
+    requires two { IsOf shelf two.pass }
+    requires three { IsOf shelf three.pass }
+    requires zeroth { (view_of zero.pass).worker ≡ 0 }
+    requires first { (view_of one.pass).worker ≡ (view_of zero.pass).joined }
+    requires second { (view_of two.pass).worker ≡ suc (view_of zero.pass).joined }
+    requires third { (view_of three.pass).worker ≡ suc (suc (view_of zero.pass).joined) }
+    requires four { (view_of zero.pass).joined + 3 ≡ (view_of zero.pass).passes }
+    ensures { IfOk result (λ c. plan_in c ≡ plan_of shelf) }
+{
+    assert!(rt; zero.holds_nothing());
+    assert!(rt; zero.resumes_nothing());
+    assert!(rt; one.holds_nothing());
+    assert!(rt; one.resumes_nothing());
+    assert!(rt; two.holds_nothing());
+    assert!(rt; two.resumes_nothing());
+    assert!(rt; three.holds_nothing());
+    assert!(rt; three.resumes_nothing());
+    let mut others = Vec::new(alloc);
+    others.push(pass_of(one))?;
+    others.push(pass_of(two))?;
+    others.push(pass_of(three))?;
+    shelf.settle(alloc, pass_of(zero), others)
+}
+
 fn pass_of(player: Player) -> Pass
     ensures { result ≡ player.pass }
 {
@@ -166,12 +201,7 @@ fn random_steps_as_the_machine(rt: HostRuntime) -> Result<(), Fail> {
 #[tactic(auto, unfolding(crate::specs::Plan::IsRightFor))]
 fn a_rule_changes_hands(rt: HostRuntime) -> Result<(), Fail> {
     let alloc = rt.alloc();
-    let field = Field::new(7).map_err(|_| "no field")?;
-    let mut rack = Vec::new(alloc);
-    rack.push(Vec::from_slice(alloc, &[1i64])?)?;
-    let braid = Braid::new(alloc, field, rack.as_slice(), &Scalars::Constant(2)).map_err(
-        |_| "refused",
-    )?;
+    let braid = one_letter(alloc)?;
     let first = products_of_letters(alloc, &braid)?;
     let second = products_of_pairs(alloc, &braid, &first)?;
     let levels = Levels::start(alloc, braid)?;
@@ -179,7 +209,7 @@ fn a_rule_changes_hands(rt: HostRuntime) -> Result<(), Fail> {
     let Some(layout) = two_blocks(alloc)? else {
         panic!(rt; "no layout");
     };
-    let (shelf, mut pass) = shelf_of_two(alloc, layout, levels.braid(), &first, &second, 1024)?;
+    let (shelf, mut pass) = shelf_of_two(alloc, layout, &levels, &first, &second, 1024)?;
     let value = value_of_first(alloc, &levels, &first, 1024);
     let picked = picked_after(&rt, &shelf, &mut pass, value);
     assert!(rt; is_rule_of_letter(&picked));

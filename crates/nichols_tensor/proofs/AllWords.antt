@@ -49,7 +49,7 @@ number_same a b h = sym (nat_cmp_is a b Equal h)
 pub same_length_cmp : (v w : List ℕ) → length v ≡ length w → word_cmp v w ≡ slice_cmp nat_cmp v w
 same_length_cmp v w e = ap (λ o. ordering_then o (slice_cmp nat_cmp v w)) (number_same (length v) (length w) e)
 
-prepend_less : (a : ℕ) (v w : List ℕ) → length v ≡ length w → word_cmp v w ≡ Less → word_cmp (a ∷ v) (a ∷ w) ≡ Less
+pub prepend_less : (a : ℕ) (v w : List ℕ) → length v ≡ length w → word_cmp v w ≡ Less → word_cmp (a ∷ v) (a ∷ w) ≡ Less
 prepend_less a v w e less =
     same_length_cmp (a ∷ v) (a ∷ w) (ap suc e) ∙ ap (λ o. ordering_then o (slice_cmp nat_cmp v w)) (number_same a a refl) ∙ sym (same_length_cmp v w e) ∙ less
 

@@ -5,10 +5,10 @@ use Rattle.std.proofs.lemmas.Bool.Decides.{Decides-eqb, eqb_tells}
 use Rattle.nichols_field.specs.Field.{FieldValue, IsField, IsElement, plus, times}
 use Rattle.nichols_field.proofs.FieldLaws.{plus_zero, times_is_element, times_eq_zero}
 use Rattle.nichols_field.proofs.FieldAlgebra.{zero_plus, chosen_is_element}
-use Rattle.nichols_tensor.specs.Combination.{Term, Combination, value_at, HasSameValues, same_letters, words_of, AllElements, AllNonzero, without_zeros, scaled, extended}
+use Rattle.nichols_tensor.specs.Combination.{Term, Combination, value_at, HasSameValues, same_letters, words_of, AllElements, AllNonzero, without_zeros, scalar_multiple, linear_map}
 use Rattle.nichols_tensor.specs.WordOrder.{IsRising, IsOrdered}
-use Rattle.nichols_tensor.proofs.Values.{term_value, zero_term, value_is_element, value_at-append, value_at-scaled}
-use Rattle.nichols_tensor.proofs.Over.{all-append, all-filter, passes-filter, all-scaled}
+use Rattle.nichols_tensor.proofs.Values.{term_value, zero_term, value_is_element, value_at-append, value_at-scalar_multiple}
+use Rattle.nichols_tensor.proofs.Over.{all-append, all-filter, passes-filter, all-scalar_multiple}
 use Rattle.nichols_tensor.proofs.Rising.{rising_kept}
 
 pub elements-append : (k : FieldValue) (f g : Combination) → AllElements k f → AllElements k g → AllElements k (f ++ g)
@@ -27,18 +27,18 @@ value_at-push k is f t w e =
 
 -- ---- multiples
 
-pub elements-scaled : (k : FieldValue) → IsField k → (c : ℕ) (f : Combination) → AllElements k (scaled k c f)
-elements-scaled k is c [] = tt
-elements-scaled k is c (t ∷ f) = (times_is_element k c t.coefficient is, elements-scaled k is c f)
+pub elements-scalar_multiple : (k : FieldValue) → IsField k → (c : ℕ) (f : Combination) → AllElements k (scalar_multiple k c f)
+elements-scalar_multiple k is c [] = tt
+elements-scalar_multiple k is c (t ∷ f) = (times_is_element k c t.coefficient is, elements-scalar_multiple k is c f)
 
-words_of-scaled : (k : FieldValue) (c : ℕ) (f : Combination) → words_of (scaled k c f) ≡ words_of f
-words_of-scaled k c [] = refl
-words_of-scaled k c (t ∷ f) = ap (λ ws. t.word ∷ ws) (words_of-scaled k c f)
+words_of-scalar_multiple : (k : FieldValue) (c : ℕ) (f : Combination) → words_of (scalar_multiple k c f) ≡ words_of f
+words_of-scalar_multiple k c [] = refl
+words_of-scalar_multiple k c (t ∷ f) = ap (λ ws. t.word ∷ ws) (words_of-scalar_multiple k c f)
 
-pub nonzero-scaled : (k : FieldValue) → IsField k → (c : ℕ) (f : Combination) → IsElement k c → c ≢ 0 → AllElements k f → AllNonzero f → AllNonzero (scaled k c f)
-nonzero-scaled k is c [] e nonzero elements h = tt
-nonzero-scaled k is c (t ∷ f) e nonzero elements h =
-    (λ z. elim (times_eq_zero k c t.coefficient is e elements.0 z) [ inl zero_factor ↦ nonzero zero_factor | inr zero_there ↦ h.0 zero_there ], nonzero-scaled k is c f e nonzero elements.1 h.1)
+pub nonzero-scalar_multiple : (k : FieldValue) → IsField k → (c : ℕ) (f : Combination) → IsElement k c → c ≢ 0 → AllElements k f → AllNonzero f → AllNonzero (scalar_multiple k c f)
+nonzero-scalar_multiple k is c [] e nonzero elements h = tt
+nonzero-scalar_multiple k is c (t ∷ f) e nonzero elements h =
+    (λ z. elim (times_eq_zero k c t.coefficient is e elements.0 z) [ inl zero_factor ↦ nonzero zero_factor | inr zero_there ↦ h.0 zero_there ], nonzero-scalar_multiple k is c f e nonzero elements.1 h.1)
 
 -- ---- without the terms whose coefficient is 0
 
@@ -78,24 +78,24 @@ ordered-without_zeros f r = record {
 
 -- ---- multiples without their zeros
 
-pub value_at-multiple : (k : FieldValue) → IsField k → (c : ℕ) (f : Combination) (w : List ℕ) → value_at k (without_zeros (scaled k c f)) w ≡ times k c (value_at k f w)
-value_at-multiple k is c f w = value_at-without_zeros k is (scaled k c f) w ∙ value_at-scaled k is c f w
+pub value_at-multiple : (k : FieldValue) → IsField k → (c : ℕ) (f : Combination) (w : List ℕ) → value_at k (without_zeros (scalar_multiple k c f)) w ≡ times k c (value_at k f w)
+value_at-multiple k is c f w = value_at-without_zeros k is (scalar_multiple k c f) w ∙ value_at-scalar_multiple k is c f w
 
-pub ordered-multiple : (k : FieldValue) (c : ℕ) (f : Combination) → IsRising (words_of f) → IsOrdered (without_zeros (scaled k c f))
-ordered-multiple k c f r = ordered-without_zeros (scaled k c f) (subst IsRising (sym (words_of-scaled k c f)) r)
+pub ordered-multiple : (k : FieldValue) (c : ℕ) (f : Combination) → IsRising (words_of f) → IsOrdered (without_zeros (scalar_multiple k c f))
+ordered-multiple k c f r = ordered-without_zeros (scalar_multiple k c f) (subst IsRising (sym (words_of-scalar_multiple k c f)) r)
 
-pub elements-multiple : (k : FieldValue) → IsField k → (c : ℕ) (f : Combination) → AllElements k (without_zeros (scaled k c f))
-elements-multiple k is c f = all-without_zeros (λ t. IsElement k t.coefficient) (scaled k c f) (elements-scaled k is c f)
+pub elements-multiple : (k : FieldValue) → IsField k → (c : ℕ) (f : Combination) → AllElements k (without_zeros (scalar_multiple k c f))
+elements-multiple k is c f = all-without_zeros (λ t. IsElement k t.coefficient) (scalar_multiple k c f) (elements-scalar_multiple k is c f)
 
 -- what holds of each word still does
-pub all-multiple : (P : List ℕ → Type 0) (k : FieldValue) (c : ℕ) (f : Combination) → AllByRecursion (λ t. P t.word) f → AllByRecursion (λ t. P t.word) (without_zeros (scaled k c f))
-all-multiple P k c f h = all-without_zeros (λ t. P t.word) (scaled k c f) (all-scaled P k c f h)
+pub all-multiple : (P : List ℕ → Type 0) (k : FieldValue) (c : ℕ) (f : Combination) → AllByRecursion (λ t. P t.word) f → AllByRecursion (λ t. P t.word) (without_zeros (scalar_multiple k c f))
+all-multiple P k c f h = all-without_zeros (λ t. P t.word) (scalar_multiple k c f) (all-scalar_multiple P k c f h)
 
 -- the value of one term without zeros
 pub value_at-one : (k : FieldValue) → IsField k → (t : Term) (w : List ℕ) → IsElement k t.coefficient → value_at k (without_zeros (t ∷ [])) w ≡ term_value t w
 value_at-one k is t w e =
     value_at-without_zeros k is (t ∷ []) w ∙ plus_zero k (term_value t w) (chosen_is_element k (same_letters t.word w) t.coefficient is e)
 
-pub elements-extended : (k : FieldValue) → IsField k → (image : List ℕ → Combination) (f : Combination) → AllElements k (extended k image f)
-elements-extended k is image [] = tt
-elements-extended k is image (t ∷ f) = elements-append k (scaled k t.coefficient (image t.word)) (extended k image f) (elements-scaled k is t.coefficient (image t.word)) (elements-extended k is image f)
+pub elements-linear_map : (k : FieldValue) → IsField k → (image : List ℕ → Combination) (f : Combination) → AllElements k (linear_map k image f)
+elements-linear_map k is image [] = tt
+elements-linear_map k is image (t ∷ f) = elements-append k (scalar_multiple k t.coefficient (image t.word)) (linear_map k image f) (elements-scalar_multiple k is t.coefficient (image t.word)) (elements-linear_map k is image f)

@@ -1,5 +1,5 @@
 -- Entries of lists that are joined, mapped and filtered.
-use Rattle.std.proofs.Common.{◌≡◌, zero, suc, ◌<◌, Bool, true, false, cond, List, [], ◌∷◌, ◌++◌, map, get_or, refl, sym, ◌∙◌, ap, subst, arith, ◌⊎◌, inl, inr}
+use Rattle.std.proofs.Common.{◌≡◌, zero, suc, ◌<◌, Bool, true, false, cond, List, [], ◌∷◌, map, get_or, refl, sym, ◌∙◌, ap, subst, arith, ◌⊎◌, inl, inr}
 use Rattle.std.specs.List.{flat_map, filter, find, list_any, list_all, Contains}
 use Rattle.std.specs.Prelude.{Some}
 use Rattle.std.proofs.lemmas.List.{get_or-map, length-map}
@@ -21,17 +21,6 @@ contains_later y ys x (k, less, e) = (suc k, omega arith, e)
 pub contains_cases : {X : Type 0} (y : X) (ys : List X) (x : X) → Contains (y ∷ ys) x → (x ≡ y) ⊎ Contains ys x
 contains_cases y ys x (zero, less, e) = inl (sym e)
 contains_cases y ys x (suc k, less, e) = inr (k, omega arith, e)
-
--- ---- joined lists
-
-pub in_left : {X : Type 0} (x : X) (xs ys : List X) → Contains xs x → Contains (xs ++ ys) x
-in_left x xs ys h = Contains-append_left xs ys x h
-
-pub in_right : {X : Type 0} (x : X) (xs ys : List X) → Contains ys x → Contains (xs ++ ys) x
-in_right x xs ys h = Contains-append_right xs ys x h
-
-pub in_either : {X : Type 0} (x : X) (xs ys : List X) → Contains (xs ++ ys) x → Contains xs x ⊎ Contains ys x
-in_either x xs ys h = Contains-append_cases xs ys x h
 
 -- ---- images
 

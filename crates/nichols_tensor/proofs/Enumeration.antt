@@ -6,10 +6,10 @@ use Rattle.nichols_field.specs.Field.{FieldValue, IsField, plus, elements}
 use Rattle.nichols_field.proofs.FieldLaws.{plus_zero}
 use Rattle.nichols_field.proofs.FieldAlgebra.{zero_plus}
 use Rattle.nichols_field.proofs.Elements.{element_is_listed, listed_is_element}
-use Rattle.nichols_tensor.specs.Combination.{Combination, value_at, HasSameValues, same_letters, words_of, AllElements, AllAmong, scaled}
+use Rattle.nichols_tensor.specs.Combination.{Combination, value_at, HasSameValues, same_letters, words_of, AllElements, AllAmong, scalar_multiple}
 use Rattle.nichols_tensor.specs.Words.{combinations}
 use Rattle.nichols_tensor.proofs.Entries.{contains_none, contains_first, contains_later, contains_cases, in_map, in_flat_map, from_map, from_flat_map}
-use Rattle.nichols_tensor.proofs.Over.{all-append, all-weaker, all-scaled}
+use Rattle.nichols_tensor.proofs.Over.{all-append, all-weaker, all-scalar_multiple}
 use Rattle.nichols_tensor.proofs.Values.{without, value_without, value_is_element, same_itself, same_back}
 
 -- the combination of the words of the list with the values of f there
@@ -98,6 +98,6 @@ pub among-append : (f g : Combination) (ws : List (List ℕ)) → AllAmong f ws 
 unfolding AllAmong
 among-append f g ws h k = all-append (λ t. Contains ws t.word) f g h k
 
-pub among-scaled : (k : FieldValue) (c : ℕ) (f : Combination) (ws : List (List ℕ)) → AllAmong f ws → AllAmong (scaled k c f) ws
+pub among-scalar_multiple : (k : FieldValue) (c : ℕ) (f : Combination) (ws : List (List ℕ)) → AllAmong f ws → AllAmong (scalar_multiple k c f) ws
 unfolding AllAmong
-among-scaled k c f ws h = all-scaled (Contains ws) k c f h
+among-scalar_multiple k c f ws h = all-scalar_multiple (Contains ws) k c f h

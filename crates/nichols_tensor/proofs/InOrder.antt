@@ -7,7 +7,7 @@ use Rattle.nichols_field.specs.Field.{FieldValue, IsField, IsElement, plus}
 use Rattle.nichols_field.proofs.FieldLaws.{plus_assoc, plus_is_element}
 use Rattle.nichols_field.proofs.FieldAlgebra.{swap_first, plus_chosen}
 use Rattle.nichols_tensor.specs.Combination.{Term, Combination, value_at, HasSameValues, same_letters, words_of, AllElements, AllAmong}
-use Rattle.nichols_tensor.specs.InOrder.{placed, rising_terms, in_order}
+use Rattle.nichols_tensor.specs.InOrder.{with_term, rising_terms, in_order}
 use Rattle.nichols_tensor.specs.Laws.{IsTheOneInOrder}
 use Rattle.nichols_tensor.specs.WordOrder.{word_cmp, IsBelowFirst, IsRising, IsOrdered}
 use Rattle.nichols_tensor.specs.Words.{IsOver, HasDegree, IsWordOver}
@@ -22,7 +22,7 @@ abbrev added : FieldValue → Term → Term → Term
 added k t u = record { word = u.word; coefficient = plus k t.coefficient u.coefficient }
 
 -- where a term goes, by how its word stands to the first one
-abbrev beside : FieldValue → Term → Term → Combination → Combination → Ordering → Combination
+abbrev pub beside : FieldValue → Term → Term → Combination → Combination → Ordering → Combination
 beside k t u f later o = elim o [
   | Less ↦ t ∷ u ∷ f
   | Equal ↦ added k t u ∷ f
@@ -31,12 +31,12 @@ beside k t u f later o = elim o [
 
 -- ---- one term
 
-value_at-placed : (k : FieldValue) → IsField k → (t : Term) (f : Combination) (w : List ℕ) → value_at k (placed k t f) w ≡ plus k (term_value t w) (value_at k f w)
-unfolding placed
-value_at-placed k is t [] w = refl
-value_at-placed k is t (u ∷ f) w = at (word_cmp t.word u.word) refl (value_at-placed k is t f w)
+value_at-with_term : (k : FieldValue) → IsField k → (t : Term) (f : Combination) (w : List ℕ) → value_at k (with_term k t f) w ≡ plus k (term_value t w) (value_at k f w)
+unfolding with_term
+value_at-with_term k is t [] w = refl
+value_at-with_term k is t (u ∷ f) w = at (word_cmp t.word u.word) refl (value_at-with_term k is t f w)
   where
-    at : (o : Ordering) → word_cmp t.word u.word ≡ o → value_at k (placed k t f) w ≡ plus k (term_value t w) (value_at k f w) → value_at k (beside k t u f (placed k t f) o) w ≡ plus k (term_value t w) (value_at k (u ∷ f) w)
+    at : (o : Ordering) → word_cmp t.word u.word ≡ o → value_at k (with_term k t f) w ≡ plus k (term_value t w) (value_at k f w) → value_at k (beside k t u f (with_term k t f) o) w ≡ plus k (term_value t w) (value_at k (u ∷ f) w)
     at Less e later = refl
     at Equal e later =
         ap (λ n. plus k n (value_at k f w)) (sym (plus_chosen k (same_letters u.word w) t.coefficient u.coefficient is) ∙ ap (λ v. plus k (cond (same_letters v w) t.coefficient 0) (term_value u w)) (sym (same_word t.word u.word e)))
@@ -44,42 +44,42 @@ value_at-placed k is t (u ∷ f) w = at (word_cmp t.word u.word) refl (value_at-
     at Greater e later = ap (plus k (term_value u w)) later ∙ swap_first k (term_value u w) (term_value t w) (value_at k f w)
 
 -- what holds of each word still does
-all-placed : (P : List ℕ → Type 0) (k : FieldValue) (t : Term) (f : Combination) → P t.word → AllByRecursion (λ u. P u.word) f → AllByRecursion (λ u. P u.word) (placed k t f)
-unfolding placed
-all-placed P k t [] here h = (here, tt)
-all-placed P k t (u ∷ f) here h = at (word_cmp t.word u.word) (all-placed P k t f here h.1)
+all-with_term : (P : List ℕ → Type 0) (k : FieldValue) (t : Term) (f : Combination) → P t.word → AllByRecursion (λ u. P u.word) f → AllByRecursion (λ u. P u.word) (with_term k t f)
+unfolding with_term
+all-with_term P k t [] here h = (here, tt)
+all-with_term P k t (u ∷ f) here h = at (word_cmp t.word u.word) (all-with_term P k t f here h.1)
   where
-    at : (o : Ordering) → AllByRecursion (λ u. P u.word) (placed k t f) → AllByRecursion (λ u. P u.word) (beside k t u f (placed k t f) o)
+    at : (o : Ordering) → AllByRecursion (λ u. P u.word) (with_term k t f) → AllByRecursion (λ u. P u.word) (beside k t u f (with_term k t f) o)
     at Less later = (here, h)
     at Equal later = h
     at Greater later = (h.0, later)
 
-elements-placed : (k : FieldValue) → IsField k → (t : Term) (f : Combination) → IsElement k t.coefficient → AllElements k f → AllElements k (placed k t f)
-unfolding placed
-elements-placed k is t [] here h = (here, tt)
-elements-placed k is t (u ∷ f) here h = at (word_cmp t.word u.word) (elements-placed k is t f here h.1)
+elements-with_term : (k : FieldValue) → IsField k → (t : Term) (f : Combination) → IsElement k t.coefficient → AllElements k f → AllElements k (with_term k t f)
+unfolding with_term
+elements-with_term k is t [] here h = (here, tt)
+elements-with_term k is t (u ∷ f) here h = at (word_cmp t.word u.word) (elements-with_term k is t f here h.1)
   where
-    at : (o : Ordering) → AllElements k (placed k t f) → AllElements k (beside k t u f (placed k t f) o)
+    at : (o : Ordering) → AllElements k (with_term k t f) → AllElements k (beside k t u f (with_term k t f) o)
     at Less later = (here, h)
     at Equal later = (plus_is_element k t.coefficient u.coefficient is, h.1)
     at Greater later = (h.0, later)
 
-below-placed : (k : FieldValue) (v : List ℕ) (t : Term) (f : Combination) → word_cmp v t.word ≡ Less → IsBelowFirst v (words_of f) → IsBelowFirst v (words_of (placed k t f))
-unfolding placed
-below-placed k v t [] here h = here
-below-placed k v t (u ∷ f) here h = at (word_cmp t.word u.word)
+below-with_term : (k : FieldValue) (v : List ℕ) (t : Term) (f : Combination) → word_cmp v t.word ≡ Less → IsBelowFirst v (words_of f) → IsBelowFirst v (words_of (with_term k t f))
+unfolding with_term
+below-with_term k v t [] here h = here
+below-with_term k v t (u ∷ f) here h = at (word_cmp t.word u.word)
   where
-    at : (o : Ordering) → IsBelowFirst v (words_of (beside k t u f (placed k t f) o))
+    at : (o : Ordering) → IsBelowFirst v (words_of (beside k t u f (with_term k t f) o))
     at Less = here
     at Equal = h
     at Greater = h
 
-rising-placed : (k : FieldValue) (t : Term) (f : Combination) → IsRising (words_of f) → IsRising (words_of (placed k t f))
-unfolding placed
-rising-placed k t [] r = (tt, tt)
-rising-placed k t (u ∷ f) r = at (word_cmp t.word u.word) refl (rising-placed k t f r.1) (λ less. below-placed k u.word t f less r.0)
+rising-with_term : (k : FieldValue) (t : Term) (f : Combination) → IsRising (words_of f) → IsRising (words_of (with_term k t f))
+unfolding with_term
+rising-with_term k t [] r = (tt, tt)
+rising-with_term k t (u ∷ f) r = at (word_cmp t.word u.word) refl (rising-with_term k t f r.1) (λ less. below-with_term k u.word t f less r.0)
   where
-    at : (o : Ordering) → word_cmp t.word u.word ≡ o → IsRising (words_of (placed k t f)) → (word_cmp u.word t.word ≡ Less → IsBelowFirst u.word (words_of (placed k t f))) → IsRising (words_of (beside k t u f (placed k t f) o))
+    at : (o : Ordering) → word_cmp t.word u.word ≡ o → IsRising (words_of (with_term k t f)) → (word_cmp u.word t.word ≡ Less → IsBelowFirst u.word (words_of (with_term k t f))) → IsRising (words_of (beside k t u f (with_term k t f) o))
     at Less e later below = (e, r)
     at Equal e later below = r
     at Greater e later below = (below (less_back t.word u.word e), later)
@@ -89,22 +89,22 @@ rising-placed k t (u ∷ f) r = at (word_cmp t.word u.word) refl (rising-placed 
 value_at-rising_terms : (k : FieldValue) → IsField k → (f : Combination) → HasSameValues k (rising_terms k f) f
 unfolding rising_terms
 value_at-rising_terms k is [] w = refl
-value_at-rising_terms k is (t ∷ f) w = value_at-placed k is t (rising_terms k f) w ∙ ap (plus k (term_value t w)) (value_at-rising_terms k is f w)
+value_at-rising_terms k is (t ∷ f) w = value_at-with_term k is t (rising_terms k f) w ∙ ap (plus k (term_value t w)) (value_at-rising_terms k is f w)
 
 all-rising_terms : (P : List ℕ → Type 0) (k : FieldValue) (f : Combination) → AllByRecursion (λ t. P t.word) f → AllByRecursion (λ t. P t.word) (rising_terms k f)
 unfolding rising_terms
 all-rising_terms P k [] h = tt
-all-rising_terms P k (t ∷ f) h = all-placed P k t (rising_terms k f) h.0 (all-rising_terms P k f h.1)
+all-rising_terms P k (t ∷ f) h = all-with_term P k t (rising_terms k f) h.0 (all-rising_terms P k f h.1)
 
 elements-rising_terms : (k : FieldValue) → IsField k → (f : Combination) → AllElements k f → AllElements k (rising_terms k f)
 unfolding rising_terms
 elements-rising_terms k is [] h = tt
-elements-rising_terms k is (t ∷ f) h = elements-placed k is t (rising_terms k f) h.0 (elements-rising_terms k is f h.1)
+elements-rising_terms k is (t ∷ f) h = elements-with_term k is t (rising_terms k f) h.0 (elements-rising_terms k is f h.1)
 
 rising-rising_terms : (k : FieldValue) (f : Combination) → IsRising (words_of (rising_terms k f))
 unfolding rising_terms
 rising-rising_terms k [] = tt
-rising-rising_terms k (t ∷ f) = rising-placed k t (rising_terms k f) (rising-rising_terms k f)
+rising-rising_terms k (t ∷ f) = rising-with_term k t (rising_terms k f) (rising-rising_terms k f)
 
 -- ---- in order
 

@@ -13,6 +13,7 @@ pub mod AllWords
 pub mod Tests
 pub mod Permuted
 pub mod InOrder
+pub mod Gathered
 pub mod Parts
 mod WorkedRows
 pub mod Zero

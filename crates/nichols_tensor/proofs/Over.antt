@@ -4,7 +4,7 @@ use Rattle.std.specs.Prelude.{slice_index}
 use Rattle.std.specs.List.{AllByRecursion, Contains, filter}
 use Rattle.std.proofs.lemmas.List.Elements.{All-contains, All-filter, All-weaker, All-from_recursion, recursion_from_All, filter_passes}
 use Rattle.nichols_field.specs.Field.{FieldValue}
-use Rattle.nichols_tensor.specs.Combination.{Combination, words_of, AllAmong, scaled}
+use Rattle.nichols_tensor.specs.Combination.{Combination, words_of, AllAmong, scalar_multiple}
 use Rattle.nichols_tensor.specs.Words.{IsLetterOf, IsWordOver, IsOver, HasDegree}
 
 pub all-append : {X : Type 0} (P : X → Type 0) (xs ys : List X) → AllByRecursion P xs → AllByRecursion P ys → AllByRecursion P (xs ++ ys)
@@ -73,6 +73,6 @@ over_of_both n f g h a left right = all_of_both (IsWordOver n) f g h a left righ
 pub degree_of_both : (m : ℕ) (f g h : Combination) → AllAmong h (words_of f ++ words_of g) → HasDegree m f → HasDegree m g → HasDegree m h
 degree_of_both m f g h a left right = all_of_both (λ w. length w ≡ m) f g h a left right
 
-pub all-scaled : (P : List ℕ → Type 0) (k : FieldValue) (c : ℕ) (f : Combination) → AllByRecursion (λ t. P t.word) f → AllByRecursion (λ t. P t.word) (scaled k c f)
-all-scaled P k c [] h = tt
-all-scaled P k c (t ∷ f) h = (h.0, all-scaled P k c f h.1)
+pub all-scalar_multiple : (P : List ℕ → Type 0) (k : FieldValue) (c : ℕ) (f : Combination) → AllByRecursion (λ t. P t.word) f → AllByRecursion (λ t. P t.word) (scalar_multiple k c f)
+all-scalar_multiple P k c [] h = tt
+all-scalar_multiple P k c (t ∷ f) h = (h.0, all-scalar_multiple P k c f h.1)

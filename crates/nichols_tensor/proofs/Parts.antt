@@ -7,7 +7,7 @@ use Rattle.std.proofs.lemmas.List.Elements.{filter-append}
 use Rattle.nichols_field.specs.Field.{FieldValue, IsField, IsElement, plus}
 use Rattle.nichols_field.proofs.FieldLaws.{plus_zero, zero_is_element}
 use Rattle.nichols_field.proofs.FieldAlgebra.{zero_plus}
-use Rattle.nichols_tensor.specs.Combination.{Term, Combination, value_at, HasSameValues, words_of, AllElements, scaled, extended}
+use Rattle.nichols_tensor.specs.Combination.{Term, Combination, value_at, HasSameValues, words_of, AllElements, scalar_multiple, linear_map}
 use Rattle.nichols_tensor.specs.Laws.{HasPartsByDegree}
 use Rattle.nichols_tensor.specs.Parts.{part, part_of_degree, longest, degrees_of}
 use Rattle.nichols_tensor.specs.WordOrder.{IsOrdered}
@@ -23,12 +23,12 @@ use Rattle.nichols_tensor.proofs.Rising.{rising_kept}
 pub part-append : (test : List ℕ → Bool) (f g : Combination) → part test (f ++ g) ≡ part test f ++ part test g
 part-append test f g = filter-append (λ t. test t.word) f g
 
-pub part-scaled : (k : FieldValue) (test : List ℕ → Bool) (c : ℕ) (f : Combination) → part test (scaled k c f) ≡ scaled k c (part test f)
-part-scaled k test c [] = refl
-part-scaled k test c (t ∷ f) = at (test t.word) (part-scaled k test c f)
+pub part-scalar_multiple : (k : FieldValue) (test : List ℕ → Bool) (c : ℕ) (f : Combination) → part test (scalar_multiple k c f) ≡ scalar_multiple k c (part test f)
+part-scalar_multiple k test c [] = refl
+part-scalar_multiple k test c (t ∷ f) = at (test t.word) (part-scalar_multiple k test c f)
   where
-    at : (b : Bool) → part test (scaled k c f) ≡ scaled k c (part test f) → cond b (scaled k c (t ∷ []) ++ part test (scaled k c f)) (part test (scaled k c f)) ≡ scaled k c (cond b (t ∷ part test f) (part test f))
-    at true e = ap (λ r. scaled k c (t ∷ []) ++ r) e
+    at : (b : Bool) → part test (scalar_multiple k c f) ≡ scalar_multiple k c (part test f) → cond b (scalar_multiple k c (t ∷ []) ++ part test (scalar_multiple k c f)) (part test (scalar_multiple k c f)) ≡ scalar_multiple k c (cond b (t ∷ part test f) (part test f))
+    at true e = ap (λ r. scalar_multiple k c (t ∷ []) ++ r) e
     at false e = e
 
 -- each word passes, or none
@@ -41,17 +41,17 @@ part_of_none test [] h = refl
 part_of_none test (t ∷ f) h = ap₂ (λ b r. cond b (t ∷ r) r) h.0 (part_of_none test f h.1)
 
 -- where the words of each image pass as the word itself passes another test, the part of an image is the image of a part
-pub part-extended : (k : FieldValue) (image : List ℕ → Combination) (test before : List ℕ → Bool) → ((w : List ℕ) → AllByRecursion (λ t. test t.word ≡ before w) (image w)) → (f : Combination) →
-    part test (extended k image f) ≡ extended k image (part before f)
-part-extended k image test before each [] = refl
-part-extended k image test before each (t ∷ f) =
-    part-append test (scaled k t.coefficient (image t.word)) (extended k image f)
-    ∙ ap₂ (λ g h. g ++ h) (part-scaled k test t.coefficient (image t.word)) (part-extended k image test before each f)
+pub part-linear_map : (k : FieldValue) (image : List ℕ → Combination) (test before : List ℕ → Bool) → ((w : List ℕ) → AllByRecursion (λ t. test t.word ≡ before w) (image w)) → (f : Combination) →
+    part test (linear_map k image f) ≡ linear_map k image (part before f)
+part-linear_map k image test before each [] = refl
+part-linear_map k image test before each (t ∷ f) =
+    part-append test (scalar_multiple k t.coefficient (image t.word)) (linear_map k image f)
+    ∙ ap₂ (λ g h. g ++ h) (part-scalar_multiple k test t.coefficient (image t.word)) (part-linear_map k image test before each f)
     ∙ at (before t.word) (each t.word)
   where
-    at : (b : Bool) → AllByRecursion (λ u. test u.word ≡ b) (image t.word) → scaled k t.coefficient (part test (image t.word)) ++ extended k image (part before f) ≡ extended k image (cond b (t ∷ part before f) (part before f))
-    at true h = ap (λ g. scaled k t.coefficient g ++ extended k image (part before f)) (part_of_all test (image t.word) h)
-    at false h = ap (λ g. scaled k t.coefficient g ++ extended k image (part before f)) (part_of_none test (image t.word) h)
+    at : (b : Bool) → AllByRecursion (λ u. test u.word ≡ b) (image t.word) → scalar_multiple k t.coefficient (part test (image t.word)) ++ linear_map k image (part before f) ≡ linear_map k image (cond b (t ∷ part before f) (part before f))
+    at true h = ap (λ g. scalar_multiple k t.coefficient g ++ linear_map k image (part before f)) (part_of_all test (image t.word) h)
+    at false h = ap (λ g. scalar_multiple k t.coefficient g ++ linear_map k image (part before f)) (part_of_none test (image t.word) h)
 
 -- ---- what a part keeps
 

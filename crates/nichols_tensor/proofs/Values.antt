@@ -7,7 +7,7 @@ use Rattle.nichols_field.specs.Field.{FieldValue, IsField, IsElement, plus, time
 use Rattle.nichols_tensor.proofs.Tests.{same_answer}
 use Rattle.nichols_field.proofs.FieldLaws.{plus_assoc, plus_zero, times_assoc, times_plus, times_zero, zero_is_element, plus_is_element}
 use Rattle.nichols_field.proofs.FieldAlgebra.{zero_plus, zero_times, plus_times, swap_first, times_chosen}
-use Rattle.nichols_tensor.specs.Combination.{Term, Combination, value_at, IsZero, scaled, minus, extended, same_letters}
+use Rattle.nichols_tensor.specs.Combination.{Term, Combination, value_at, IsZero, scalar_multiple, minus, linear_map, same_letters}
 use Rattle.nichols_tensor.specs.Parts.{part}
 
 -- what a term adds to the value at a word
@@ -29,15 +29,15 @@ pub value_at-append : (k : FieldValue) → IsField k → (f g : Combination) (w 
 value_at-append k is [] g w = sym (zero_plus k (value_at k g w) (value_is_element k is g w))
 value_at-append k is (t ∷ f) g w = ap (plus k (term_value t w)) (value_at-append k is f g w) ∙ sym (plus_assoc k (term_value t w) (value_at k f w) (value_at k g w))
 
-pub value_at-scaled : (k : FieldValue) → IsField k → (c : ℕ) (f : Combination) (w : List ℕ) → value_at k (scaled k c f) w ≡ times k c (value_at k f w)
-value_at-scaled k is c [] w = sym (times_zero k c is)
-value_at-scaled k is c (t ∷ f) w =
-    ap (λ n. plus k n (value_at k (scaled k c f) w)) (sym (times_chosen k (same_letters t.word w) c t.coefficient is))
-    ∙ ap (plus k (times k c (term_value t w))) (value_at-scaled k is c f w)
+pub value_at-scalar_multiple : (k : FieldValue) → IsField k → (c : ℕ) (f : Combination) (w : List ℕ) → value_at k (scalar_multiple k c f) w ≡ times k c (value_at k f w)
+value_at-scalar_multiple k is c [] w = sym (times_zero k c is)
+value_at-scalar_multiple k is c (t ∷ f) w =
+    ap (λ n. plus k n (value_at k (scalar_multiple k c f) w)) (sym (times_chosen k (same_letters t.word w) c t.coefficient is))
+    ∙ ap (plus k (times k c (term_value t w))) (value_at-scalar_multiple k is c f w)
     ∙ sym (times_plus k c (term_value t w) (value_at k f w))
 
 pub value_at-minus : (k : FieldValue) → IsField k → (f g : Combination) (w : List ℕ) → value_at k (minus k f g) w ≡ plus k (value_at k f w) (times k (negative k 1) (value_at k g w))
-value_at-minus k is f g w = value_at-append k is f (scaled k (negative k 1) g) w ∙ ap (plus k (value_at k f w)) (value_at-scaled k is (negative k 1) g w)
+value_at-minus k is f g w = value_at-append k is f (scalar_multiple k (negative k 1) g) w ∙ ap (plus k (value_at k f w)) (value_at-scalar_multiple k is (negative k 1) g w)
 
 -- the sum of the coefficients, each times a number that its word has
 unfoldable pub weight : FieldValue → (List ℕ → ℕ) → Combination → ℕ
@@ -54,28 +54,28 @@ unfolding weight
 weight-append k is φ [] g = sym (zero_plus k (weight k φ g) (weight_is_element k is φ g))
 weight-append k is φ (t ∷ f) g = ap (plus k (times k t.coefficient (φ t.word))) (weight-append k is φ f g) ∙ sym (plus_assoc k (times k t.coefficient (φ t.word)) (weight k φ f) (weight k φ g))
 
-pub weight-scaled : (k : FieldValue) → IsField k → (φ : List ℕ → ℕ) (c : ℕ) (f : Combination) → weight k φ (scaled k c f) ≡ times k c (weight k φ f)
+pub weight-scalar_multiple : (k : FieldValue) → IsField k → (φ : List ℕ → ℕ) (c : ℕ) (f : Combination) → weight k φ (scalar_multiple k c f) ≡ times k c (weight k φ f)
 unfolding weight
-weight-scaled k is φ c [] = sym (times_zero k c is)
-weight-scaled k is φ c (t ∷ f) =
-    ap (plus k (times k (times k c t.coefficient) (φ t.word))) (weight-scaled k is φ c f)
+weight-scalar_multiple k is φ c [] = sym (times_zero k c is)
+weight-scalar_multiple k is φ c (t ∷ f) =
+    ap (plus k (times k (times k c t.coefficient) (φ t.word))) (weight-scalar_multiple k is φ c f)
     ∙ ap (λ n. plus k n (times k c (weight k φ f))) (times_assoc k c t.coefficient (φ t.word))
     ∙ sym (times_plus k c (times k t.coefficient (φ t.word)) (weight k φ f))
 
-pub value_at-extended : (k : FieldValue) → IsField k → (image : List ℕ → Combination) (f : Combination) (w : List ℕ) → value_at k (extended k image f) w ≡ weight k (λ v. value_at k (image v) w) f
+pub value_at-linear_map : (k : FieldValue) → IsField k → (image : List ℕ → Combination) (f : Combination) (w : List ℕ) → value_at k (linear_map k image f) w ≡ weight k (λ v. value_at k (image v) w) f
 unfolding weight
-value_at-extended k is image [] w = refl
-value_at-extended k is image (t ∷ f) w =
-    value_at-append k is (scaled k t.coefficient (image t.word)) (extended k image f) w
-    ∙ ap (λ n. plus k n (value_at k (extended k image f) w)) (value_at-scaled k is t.coefficient (image t.word) w)
-    ∙ ap (plus k (times k t.coefficient (value_at k (image t.word) w))) (value_at-extended k is image f w)
+value_at-linear_map k is image [] w = refl
+value_at-linear_map k is image (t ∷ f) w =
+    value_at-append k is (scalar_multiple k t.coefficient (image t.word)) (linear_map k image f) w
+    ∙ ap (λ n. plus k n (value_at k (linear_map k image f) w)) (value_at-scalar_multiple k is t.coefficient (image t.word) w)
+    ∙ ap (plus k (times k t.coefficient (value_at k (image t.word) w))) (value_at-linear_map k is image f w)
 
 -- the weight of a combination of images is a sum of the images' weights
-pub weight-extended : (k : FieldValue) → IsField k → (φ : List ℕ → ℕ) (image : List ℕ → Combination) (f : Combination) → weight k φ (extended k image f) ≡ weight k (λ w. weight k φ (image w)) f
+pub weight-linear_map : (k : FieldValue) → IsField k → (φ : List ℕ → ℕ) (image : List ℕ → Combination) (f : Combination) → weight k φ (linear_map k image f) ≡ weight k (λ w. weight k φ (image w)) f
 unfolding weight
-weight-extended k is φ image [] = refl
-weight-extended k is φ image (t ∷ f) =
-    weight-append k is φ (scaled k t.coefficient (image t.word)) (extended k image f) ∙ ap₂ (plus k) (weight-scaled k is φ t.coefficient (image t.word)) (weight-extended k is φ image f)
+weight-linear_map k is φ image [] = refl
+weight-linear_map k is φ image (t ∷ f) =
+    weight-append k is φ (scalar_multiple k t.coefficient (image t.word)) (linear_map k image f) ∙ ap₂ (plus k) (weight-scalar_multiple k is φ t.coefficient (image t.word)) (weight-linear_map k is φ image f)
 
 -- ---- the terms whose words pass a test
 

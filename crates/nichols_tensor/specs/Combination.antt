@@ -54,17 +54,17 @@ abbrev pub single : List ℕ → Combination
 single w = record { word = w; coefficient = 1 } ∷ []
 
 -- c f: each coefficient multiplied
-abbrev pub scaled : FieldValue → ℕ → Combination → Combination
-scaled field c f = map (λ t. record { word = t.word; coefficient = times field c t.coefficient }) f
+abbrev pub scalar_multiple : FieldValue → ℕ → Combination → Combination
+scalar_multiple field c f = map (λ t. record { word = t.word; coefficient = times field c t.coefficient }) f
 
 -- f - g
 abbrev pub minus : FieldValue → Combination → Combination → Combination
-minus field f g = f ++ scaled field (negative field 1) g
+minus field f g = f ++ scalar_multiple field (negative field 1) g
 
 -- f without the terms whose coefficient is 0
 abbrev pub without_zeros : Combination → Combination
 without_zeros f = filter (λ t. not (nat_eq t.coefficient 0)) f
 
 -- the linear map that has these images of the words
-abbrev pub extended : FieldValue → (List ℕ → Combination) → Combination → Combination
-extended field image f = flat_map (λ t. scaled field t.coefficient (image t.word)) f
+abbrev pub linear_map : FieldValue → (List ℕ → Combination) → Combination → Combination
+linear_map field image f = flat_map (λ t. scalar_multiple field t.coefficient (image t.word)) f

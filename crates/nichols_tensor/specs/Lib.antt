@@ -9,3 +9,4 @@ pub mod Laws
 -- what invariants and private functions use
 pub mod Inline
 pub mod Positions
+pub mod Gathered

@@ -1,3 +1,4 @@
+-- what public contracts cite
 pub mod Words
 pub mod Pieces
 pub mod Expressions

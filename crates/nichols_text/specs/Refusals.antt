@@ -1,19 +1,24 @@
 -- The lines of refusals.
+use Rattle.std.specs.Prelude.{ℕ, ℤ, ◌&&◌, List, ◌++◌, codes, decimal, map, take, nat_le, Option, Some, option_map, if◌then◌else◌}
+use Rattle.std.specs.Fmt.{signed_decimal}
+use Rattle.nichols_tensor.specs.declared.TheConstants.{LETTER_LIMIT, WORD_LIMIT}
+use Rattle.nichols_braid.specs.Faults.{TableFault, letters, rack_shape, rack_entry, not_bijective, not_distributive, cocycle_shape, cocycle_zero, not_cocycle}
+use Rattle.nichols_expression.specs.declared.TheConstants.{NUMBER_LIMIT, TERM_LIMIT, EXPRESSION_LIMIT}
 use Rattle.nichols_expression.specs.declared.faults.Cause.{Cause}
 use Rattle.nichols_expression.specs.declared.faults.Cause.TheVariants.{Early, Byte, Letter, LongNumber, LongWord, Terms, Surplus}
 use Rattle.nichols_input.specs.Keys.{key_name}
 use Rattle.nichols_input.specs.Refusal.{Refusal as DocumentRefusal, refusal_of, not_toml, missing_key, unknown_key, wrong_kind, modulus, tables, expression}
+use Rattle.nichols_input.specs.declared.TheConstants.{DOCUMENT_LIMIT}
 use Rattle.nichols_input.specs.declared.key.Key.{Key}
+use Rattle.nichols_text.specs.declared.key_line.TheConstants.{KEY_LIMIT}
 use Rattle.nichols_text.specs.declared.refusal.Refusal.{Refusal}
 use Rattle.nichols_text.specs.declared.refusal.Refusal.TheVariants.{TooLong, Input, LongExpression}
-use Rattle.std.specs.Prelude.{ℕ, ℤ, ◌&&◌, List, ◌++◌, codes, decimal, map, take, nat_le, Option, Some, option_map, if◌then◌else◌}
-use Rattle.std.specs.Fmt.{signed_decimal}
-use Rattle.nichols_braid.specs.Faults.{TableFault, letters, rack_shape, rack_entry, not_bijective, not_distributive, cocycle_shape, cocycle_zero, not_cocycle}
 
 -- ---- the document
 
+-- `refused: document longer than <limit> bytes`
 unfoldable pub too_long_text : List ℕ
-too_long_text = codes "refused: document longer than 1048576 bytes\n"
+too_long_text = codes "refused: document longer than " ++ decimal DOCUMENT_LIMIT ++ codes " bytes\n"
 
 unfoldable pub not_toml_text : List ℕ
 not_toml_text = codes "refused: not TOML\n"
@@ -26,9 +31,9 @@ missing_key_text key = codes "refused: missing key " ++ key_name key ++ codes "\
 abbrev pub printed_byte : ℕ → ℕ
 printed_byte byte = if nat_le 33 byte && nat_le byte 126 then byte else 63
 
--- the first 60 bytes of a key, as they are printed
+-- the first bytes of a key, as they are printed
 unfoldable pub printed_key : List ℕ → List ℕ
-printed_key text = map printed_byte (take 60 text)
+printed_key text = map printed_byte (take KEY_LIMIT text)
 
 -- `refused: unknown key <text>`
 unfoldable pub unknown_key_text : List ℕ → List ℕ
@@ -44,9 +49,9 @@ modulus_text p = codes "refused: modulus " ++ signed_decimal p ++ codes " not in
 
 -- ---- rows and scalars
 
--- `refused: <n> letters outside 1 to 24`
+-- `refused: <n> letters outside 1 to <limit>`
 unfoldable pub letters_text : ℕ → List ℕ
-letters_text n = codes "refused: " ++ decimal n ++ codes " letters outside 1 to 24\n"
+letters_text n = codes "refused: " ++ decimal n ++ codes " letters outside 1 to " ++ decimal LETTER_LIMIT ++ codes "\n"
 
 -- `refused: rack row <r> has a wrong length`
 unfoldable pub rack_shape_text : ℕ → List ℕ
@@ -95,14 +100,14 @@ table_line (not_cocycle i j k left right) = not_cocycle_text i j k left right
 -- ---- expressions
 
 -- the words for what is wrong with an expression
-abbrev pub cause_words : Cause → List ℕ
+unfoldable pub cause_words : Cause → List ℕ
 cause_words Early = codes "text ends too early"
 cause_words Byte = codes "unexpected byte"
 cause_words Letter = codes "letter outside the rack"
-cause_words LongNumber = codes "number longer than 9 digits"
-cause_words LongWord = codes "word longer than 60 letters"
-cause_words Terms = codes "more than 1000 terms"
-cause_words Surplus = codes "more than 1000 expressions"
+cause_words LongNumber = codes "number longer than " ++ decimal NUMBER_LIMIT ++ codes " digits"
+cause_words LongWord = codes "word longer than " ++ decimal WORD_LIMIT ++ codes " letters"
+cause_words Terms = codes "more than " ++ decimal TERM_LIMIT ++ codes " terms"
+cause_words Surplus = codes "more than " ++ decimal EXPRESSION_LIMIT ++ codes " expressions"
 
 -- `refused: expression <number> at byte <place>: <cause>`
 unfoldable pub expression_text : ℕ → ℕ → Cause → List ℕ

@@ -1,6 +1,7 @@
 //! The lines of a document's expressions.
 
-ghost use Rattle.std.specs.Prelude.{◌≡◌, IfOk};
+ghost use Rattle.std.specs.Prelude.{◌≡◌, ◌++◌, IfOk, codes, decimal};
+ghost use Rattle.nichols_expression.specs.Printed.{form_text};
 ghost use Rattle.nichols_text.specs.Expressions.{image_line, form_line, beyond_line};
 
 use crate::number::push_number;
@@ -13,12 +14,7 @@ use std::alloc::{AllocError, Global};
 pub fn image_text(alloc: Global, number: u32, image: &Comb) -> Result<Vec<u8>, AllocError>
     ensures { IfOk result (λ r. r.items ≡ image_line number image.now) }
 {
-    let mut out = Vec::from_slice(alloc, b"image ")?;
-    push_number(&mut out, u64::from(number))?;
-    out.extend_from_slice(b" = ")?;
-    push_form(&mut out, image)?;
-    out.extend_from_slice(b"\n")?;
-    Ok(out)
+    equation_text(alloc, "image ", number, image)
 }
 
 /// `form <k> = <form>`: the normal form of expression k, counted from 1.
@@ -26,12 +22,7 @@ pub fn image_text(alloc: Global, number: u32, image: &Comb) -> Result<Vec<u8>, A
 pub fn form_text(alloc: Global, number: u32, form: &Comb) -> Result<Vec<u8>, AllocError>
     ensures { IfOk result (λ r. r.items ≡ form_line number form.now) }
 {
-    let mut out = Vec::from_slice(alloc, b"form ")?;
-    push_number(&mut out, u64::from(number))?;
-    out.extend_from_slice(b" = ")?;
-    push_form(&mut out, form)?;
-    out.extend_from_slice(b"\n")?;
-    Ok(out)
+    equation_text(alloc, "form ", number, form)
 }
 
 /// `form <k> beyond <m>`: expression k, counted from 1, has a longer word than the last finished degree m.
@@ -43,6 +34,23 @@ pub fn beyond_text(alloc: Global, number: u32, last: u32) -> Result<Vec<u8>, All
     push_number(&mut out, u64::from(number))?;
     out.extend_from_slice(b" beyond ")?;
     push_number(&mut out, u64::from(last))?;
+    out.extend_from_slice(b"\n")?;
+    Ok(out)
+}
+
+/// What is told of a numbered expression, as a combination that it is.
+fn equation_text(
+    alloc: Global,
+    before: &str,
+    number: u32,
+    value: &Comb,
+) -> Result<Vec<u8>, AllocError>
+    ensures { IfOk result (λ r. r.items ≡ before.now ++ decimal number ++ codes " = " ++ form_text value.now ++ codes "\n") }
+{
+    let mut out = Vec::from_slice(alloc, before.as_bytes())?;
+    push_number(&mut out, u64::from(number))?;
+    out.extend_from_slice(b" = ")?;
+    push_form(&mut out, value)?;
     out.extend_from_slice(b"\n")?;
     Ok(out)
 }

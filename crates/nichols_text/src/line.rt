@@ -6,21 +6,25 @@ ghost use Rattle.nichols_text.specs.Lines.{usage_text, read_fault_text, memory_t
 use itoa::Buffer;
 use std::marker::Model;
 
-/// A line of at most 32 bytes, kept inline.
+/// The most bytes of a line that is kept inline.
+const ROOM: usize = 32;
+
+/// A short line, kept inline.
 #[derive(Drop)]
 pub struct Line {
     len: usize,
-    bytes: [u8; 32],
+    bytes: [u8; ROOM],
 }
 
 impl Model for Line {
     ghost use Rattle.std.specs.Prelude.{◌≡◌, ◌≤◌, ℕ, List, length, take};
+    ghost use Rattle.nichols_text.specs.declared.line.TheConstants.{ROOM};
 
     ghost Value = { List ℕ };
 
     ghost view = { λ l. take l.len l.bytes };
 
-    ghost invariant = { λ l. l.len ≤ 32 };
+    ghost invariant = { λ l. l.len ≤ ROOM };
 }
 
 impl Line {
@@ -30,13 +34,13 @@ impl Line {
     {
         Line {
             len: 0,
-            bytes: [0; 32],
+            bytes: [0; ROOM],
         }
     }
 
     /// Puts a text behind.
     fn push(&mut self, text: &[u8])
-        requires { length self.old + length text.now ≤ 32 }
+        requires { length self.old + length text.now ≤ ROOM }
         ensures { self.new ≡ self.old ++ text.now }
     {
         let end = self.len + text.len();

@@ -24,6 +24,21 @@ pub(crate) fn push_integer(out: &mut Vec<u8>, n: i64) -> Result<(), AllocError>
     Ok(())
 }
 
+/// Puts a number between two texts behind a text.
+pub(crate) fn push_numbered(
+    out: &mut Vec<u8>,
+    before: &str,
+    n: u64,
+    after: &str,
+) -> Result<(), AllocError>
+    ensures { OnOk result (out.new.items ≡ out.old.items ++ (before.now ++ decimal n ++ after.now)) }
+{
+    out.extend_from_slice(before.as_bytes())?;
+    push_number(out, n)?;
+    out.extend_from_slice(after.as_bytes())?;
+    Ok(())
+}
+
 /// A number between two texts.
 pub(crate) fn numbered_text(
     alloc: Global,
@@ -33,8 +48,7 @@ pub(crate) fn numbered_text(
 ) -> Result<Vec<u8>, AllocError>
     ensures { IfOk result (λ r. r.items ≡ before.now ++ decimal n ++ after.now) }
 {
-    let mut out = Vec::from_slice(alloc, before.as_bytes())?;
-    push_number(&mut out, n)?;
-    out.extend_from_slice(after.as_bytes())?;
+    let mut out = Vec::new(alloc);
+    push_numbered(&mut out, before, n, after)?;
     Ok(out)
 }

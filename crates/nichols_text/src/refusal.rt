@@ -1,21 +1,23 @@
 //! The lines of refusals.
 
-ghost use Rattle.std.specs.Prelude.{◌≡◌, ◌++◌, Some, IfOk, codes, option_map};
+ghost use Rattle.std.specs.Prelude.{◌≡◌, ◌++◌, Some, IfOk, OnOk, codes, option_map};
 ghost use Rattle.nichols_input.specs.Keys.{key_name};
 ghost use Rattle.nichols_input.specs.Refusal.{refusal_of};
 ghost use Rattle.nichols_text.specs.Refusals.{cause_words, document_line, expression_text, modulus_text, refusal_line};
 
 use crate::key_line::unknown_key_text;
-use crate::number::{numbered_text, push_integer, push_number};
+use crate::number::{numbered_text, push_integer, push_number, push_numbered};
 use crate::table_lines::tables_text;
+use nichols_expression::{NUMBER_LIMIT, TERM_LIMIT};
 use nichols_field::FieldFault;
-use nichols_input::{Cause, InputFault, Key};
+use nichols_input::{Cause, DOCUMENT_LIMIT, EXPRESSION_LIMIT, InputFault, Key};
+use nichols_tensor::WORD_LIMIT;
 use std::alloc::{AllocError, Global};
 
 /// Why nothing is computed of a document.
 #[derive(Debug, Drop)]
 pub enum Refusal {
-    /// The document has more than 1,048,576 bytes.
+    /// The document has more bytes than `DOCUMENT_LIMIT`.
     TooLong,
     /// The document isn't read.
     Input(InputFault),
@@ -29,9 +31,11 @@ pub fn refusal_text(alloc: Global, refusal: &Refusal) -> Result<Vec<u8>, AllocEr
     ensures { IfOk result (λ r. refusal_line refusal.now ≡ Some r.items) }
 {
     match refusal {
-        Refusal::TooLong => Vec::from_slice(
+        Refusal::TooLong => numbered_text(
             alloc,
-            b"refused: document longer than 1048576 bytes\n",
+            "refused: document longer than ",
+            DOCUMENT_LIMIT as u64,
+            " bytes\n",
         ),
         Refusal::Input(fault) => input_text(alloc, fault),
         Refusal::LongExpression(number) => numbered_text(
@@ -83,19 +87,30 @@ fn modulus_text(alloc: Global, p: i64) -> Result<Vec<u8>, AllocError>
     Ok(out)
 }
 
-/// The words for what is wrong with an expression.
-fn cause_words(cause: Cause) -> &'static str
-    ensures { result.now ≡ cause_words cause }
+/// Puts the words for what is wrong with an expression behind a text.
+#[tactic(auto, unfolding(crate::specs::Refusals::cause_words))]
+fn push_cause(out: &mut Vec<u8>, cause: Cause) -> Result<(), AllocError>
+    ensures { OnOk result (out.new.items ≡ out.old.items ++ cause_words cause) }
 {
     match cause {
-        Cause::Early => "text ends too early",
-        Cause::Byte => "unexpected byte",
-        Cause::Letter => "letter outside the rack",
-        Cause::LongNumber => "number longer than 9 digits",
-        Cause::LongWord => "word longer than 60 letters",
-        Cause::Terms => "more than 1000 terms",
-        Cause::Surplus => "more than 1000 expressions",
+        Cause::Early => push_words(out, "text ends too early"),
+        Cause::Byte => push_words(out, "unexpected byte"),
+        Cause::Letter => push_words(out, "letter outside the rack"),
+        Cause::LongNumber => {
+            push_numbered(out, "number longer than ", NUMBER_LIMIT as u64, " digits")
+        }
+        Cause::LongWord => push_numbered(out, "word longer than ", WORD_LIMIT as u64, " letters"),
+        Cause::Terms => push_numbered(out, "more than ", TERM_LIMIT as u64, " terms"),
+        Cause::Surplus => push_numbered(out, "more than ", EXPRESSION_LIMIT as u64, " expressions"),
     }
+}
+
+/// Puts words behind a text.
+fn push_words(out: &mut Vec<u8>, words: &str) -> Result<(), AllocError>
+    ensures { OnOk result (out.new.items ≡ out.old.items ++ words.now) }
+{
+    out.extend_from_slice(words.as_bytes())?;
+    Ok(())
 }
 
 /// The line of a text that is no expression, by its number and the place of its first fault.
@@ -113,7 +128,7 @@ fn expression_text(
     out.extend_from_slice(b" at byte ")?;
     push_number(&mut out, place as u64)?;
     out.extend_from_slice(b": ")?;
-    out.extend_from_slice(cause_words(cause).as_bytes())?;
+    push_cause(&mut out, cause)?;
     out.extend_from_slice(b"\n")?;
     Ok(out)
 }

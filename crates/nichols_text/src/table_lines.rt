@@ -2,21 +2,20 @@
 
 ghost use Rattle.std.specs.Prelude.{◌≡◌, ◌++◌, Some, IfOk, OnOk, option_map};
 ghost use Rattle.nichols_braid.specs.FaultAnswers.{table_fault_in};
-ghost use Rattle.nichols_text.specs.Refusals.{cocycle_zero_text, not_bijective_text, not_cocycle_text, not_distributive_text, rack_entry_text, sides_text, table_line};
+ghost use Rattle.nichols_text.specs.Refusals.{cocycle_zero_text, letters_text, not_bijective_text, not_cocycle_text, not_distributive_text, rack_entry_text, sides_text, table_line};
 
-use crate::number::{numbered_text, push_integer, push_number};
+use crate::number::{numbered_text, push_integer, push_number, push_numbered};
 use nichols_braid::BraidFault;
+use nichols_tensor::LETTER_LIMIT;
 use std::alloc::{AllocError, Global};
 
 /// The line of rows and scalars that aren't a braid.
-#[tactic(auto, unfolding(crate::specs::Refusals::letters_text, crate::specs::Refusals::rack_shape_text, crate::specs::Refusals::cocycle_shape_text))]
+#[tactic(auto, unfolding(crate::specs::Refusals::rack_shape_text, crate::specs::Refusals::cocycle_shape_text))]
 pub(crate) fn tables_text(alloc: Global, fault: &BraidFault) -> Result<Vec<u8>, AllocError>
     ensures { IfOk result (λ r. option_map table_line (table_fault_in fault.now) ≡ Some r.items) }
 {
     match fault {
-        BraidFault::Letters(n) => {
-            numbered_text(alloc, "refused: ", *n as u64, " letters outside 1 to 24\n")
-        }
+        BraidFault::Letters(n) => letters_text(alloc, *n as u64),
         BraidFault::RackShape(row) => numbered_text(
             alloc,
             "refused: rack row ",
@@ -40,6 +39,22 @@ pub(crate) fn tables_text(alloc: Global, fault: &BraidFault) -> Result<Vec<u8>, 
         }
         BraidFault::Memory => Err(AllocError),
     }
+}
+
+/// The line for a number of letters that no rack has.
+#[tactic(auto, unfolding(crate::specs::Refusals::letters_text))]
+fn letters_text(alloc: Global, n: u64) -> Result<Vec<u8>, AllocError>
+    ensures { IfOk result (λ r. r.items ≡ letters_text n) }
+{
+    let mut out = Vec::from_slice(alloc, b"refused: ")?;
+    push_number(&mut out, n)?;
+    push_numbered(
+        &mut out,
+        " letters outside 1 to ",
+        u64::from(LETTER_LIMIT),
+        "\n",
+    )?;
+    Ok(out)
 }
 
 /// The line for an entry of the rack that is no letter.

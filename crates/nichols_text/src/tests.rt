@@ -1,31 +1,21 @@
 use super::*;
-use nichols_braid::{Braid, BraidFault, Scalars};
+use nichols_braid::{Braid, BraidFault};
 use nichols_field::{Field, FieldFault};
 use nichols_input::{Cause, InputFault, Key, KeyText};
+use nichols_testing::{braid_with_constant, word};
 use nichols_words::{Comb, Relation, Term, Word};
 use std::alloc::{AllocError, Global};
 use std::test::Fail;
-
-/// The word with these letters; a number that is no letter is left out.
-fn word_of(letters: &[u8]) -> Word {
-    let mut word = Word::empty();
-    for &letter in letters {
-        if letter >= 1 && letter <= 24 {
-            let _room = word.push(letter);
-        }
-    }
-    word
-}
 
 /// `100*1.2 + 2*2.3`.
 fn form(alloc: Global, field: Field) -> Result<Comb, AllocError> {
     let mut terms = [
         Term {
-            word: word_of(&[1, 2]),
+            word: word("1.2"),
             coefficient: field.from_i64(-1),
         },
         Term {
-            word: word_of(&[2, 3]),
+            word: word("2.3"),
             coefficient: field.from_i64(2),
         },
     ];
@@ -36,14 +26,14 @@ fn form(alloc: Global, field: Field) -> Result<Comb, AllocError> {
 fn degrees(rt: HostRuntime) -> Result<(), Fail> {
     let alloc = rt.alloc();
     let field = Field::new(101).map_err(|_| "no field")?;
-    let basis = [Word::empty(), word_of(&[24, 1])];
+    let basis = [Word::empty(), word("24.1")];
     let mut relations = Vec::new(alloc);
     relations.push(Relation {
-        candidate: word_of(&[3, 1]),
+        candidate: word("3.1"),
         form: form(alloc, field)?,
     })?;
     relations.push(Relation {
-        candidate: word_of(&[3, 3]),
+        candidate: word("3.3"),
         form: Comb::zero(alloc),
     })?;
     let whole = degree_text(alloc, 2, &basis, relations.as_slice(), false)?;
@@ -61,12 +51,7 @@ fn degrees(rt: HostRuntime) -> Result<(), Fail> {
 #[test]
 fn headers(rt: HostRuntime) -> Result<(), Fail> {
     let alloc = rt.alloc();
-    let field = Field::new(65521).map_err(|_| "no field")?;
-    let mut rack = Vec::new(alloc);
-    rack.push([1].as_slice().to_vec(alloc)?)?;
-    let braid = Braid::new(alloc, field, rack.as_slice(), &Scalars::Constant(-1)).map_err(
-        |_| "no braid",
-    )?;
+    let braid = braid_with_constant(alloc, 65521, &[&[1]], -1)?;
     let header = header_text(alloc, &braid, 12, 1024)?;
     assert!(rt; header.as_slice() == b"nichols p 65521 letters 1 degree 12 rows 1024\n".as_slice());
     let symmetrize = symmetrize_header(alloc, &braid)?;

@@ -1,5 +1,6 @@
 -- The finished degrees, and the pieces of a report from one of them on.
 use Rattle.std.proofs.Common.{◌≡◌, ℕ, zero, suc, ◌+◌, ◌-◌, ◌<◌, ◌≤◌, Bool, true, false, cond, List, [], ◌∷◌, ◌++◌, map, length, refl, sym, ◌∙◌, ap, subst, arith, append_assoc, length-append, Some, None, nat_eq, inl, inr}
+use Rattle.std.proofs.lemmas.List.{map-append}
 use Rattle.std.specs.Prelude.{Option}
 use Rattle.std.specs.List.{range_with_len}
 use Rattle.std.proofs.lemmas.Bool.Decides.{Decides-eqb}
@@ -35,10 +36,6 @@ range_parts a (suc j) k n e =
     let next : a + 1 + j ≡ a + suc j = omega arith in
     ap (range_with_len a) count ∙ ap (λ ns. a ∷ ns) (range_parts (a + 1) j k (j + k) refl) ∙ ap (λ b. a ∷ (range_with_len (a + 1) j ++ range_with_len b k)) next
 
-map_append : (f : ℕ → Piece) (xs ys : List ℕ) → map f (xs ++ ys) ≡ map f xs ++ map f ys
-map_append f [] ys = refl
-map_append f (x ∷ xs) ys = ap (λ t. f x ∷ t) (map_append f xs ys)
-
 -- ---- the finished degrees
 
 -- how many degrees are finished
@@ -56,6 +53,10 @@ pub record IsAlgebra (braid : BraidValue) (scope : Scope) (g : GradedValue) : Ty
   pub braid_is : g.braid ≡ braid
   pub limit_is : g.limit ≡ scope.degree_limit
   pub rows_is : g.rows ≡ scope.rows_limit
+
+-- a step that keeps braid and limits
+pub algebra_kept : {braid : BraidValue} {scope : Scope} {g h : GradedValue} → IsAlgebra braid scope g → h.braid ≡ g.braid → h.limit ≡ g.limit → h.rows ≡ g.rows → IsAlgebra braid scope h
+algebra_kept is same_braid same_limit same_rows = record { braid_is = same_braid ∙ is.braid_is; limit_is = same_limit ∙ is.limit_is; rows_is = same_rows ∙ is.rows_is }
 
 -- what is said of its limits is said of these
 same_limits : {X : Type 0} (f : BraidValue → ℕ → ℕ → X) (braid : BraidValue) (scope : Scope) (g : GradedValue) → IsAlgebra braid scope g → f g.braid g.limit g.rows ≡ f braid scope.degree_limit scope.rows_limit
@@ -83,7 +84,7 @@ rest_parts braid scope from last order below =
     let end : List Piece = end_due braid (stop_in braid scope) (degrees_in braid scope) ∷ [] in
     let due : ℕ → Piece = degree_due braid scope.brief in
     ap (λ ms. map due ms ++ end) (range_parts from (suc last - from) (count braid scope - suc last) (count braid scope - from) split ∙ ap (λ b. range_with_len from (suc last - from) ++ range_with_len b (count braid scope - suc last)) next)
-    ∙ ap (λ ps. ps ++ end) (map_append due (range_with_len from (suc last - from)) (range_with_len (suc last) (count braid scope - suc last)))
+    ∙ ap (λ ps. ps ++ end) (map-append due (range_with_len from (suc last - from)) (range_with_len (suc last) (count braid scope - suc last)))
     ∙ append_assoc (map due (range_with_len from (suc last - from))) (map due (range_with_len (suc last) (count braid scope - suc last))) end
 
 pub some_rest : (braid : BraidValue) (scope : Scope) (m : ℕ) → 0 < length (rest_from braid scope m)
@@ -131,7 +132,7 @@ degrees_parts f from m last order within =
     let split : suc last - from ≡ (m - from) + suc (last - m) = omega arith in
     let next : from + (m - from) ≡ m = omega arith in
     ap (map f) (range_parts from (m - from) (suc (last - m)) (suc last - from) split ∙ ap (λ b. range_with_len from (m - from) ++ range_with_len b (suc (last - m))) next)
-    ∙ map_append f (range_with_len from (m - from)) (range_with_len m (suc (last - m)))
+    ∙ map-append f (range_with_len from (m - from)) (range_with_len m (suc (last - m)))
 
 pub degrees_more : (f : ℕ → Piece) (from m : ℕ) → from ≤ m → map f (range_with_len from (m - from)) ++ (f m ∷ []) ≡ map f (range_with_len from (m + 1 - from))
 degrees_more f from m order =

@@ -1,5 +1,7 @@
 -- The normal form of an expression, by the symmetrizer.
 use Rattle.std.proofs.Common.{◌≡◌, ℕ, Bool, true, false, cond, length, refl, sym, ◌∙◌, ap, nat_lt, Some, None}
+use Rattle.std.proofs.Math.Bool.{and-true}
+use Rattle.std.proofs.lemmas.Bool.{and_right}
 use Rattle.std.specs.Prelude.{◌&&◌, not, nat_eq, Option}
 use Rattle.nichols_tensor.specs.Combination.{Combination}
 use Rattle.nichols_tensor.specs.Parts.{longest}
@@ -25,20 +27,12 @@ use Rattle.nichols_top.proofs.EndLines.{closed_is_empty, stopped_is_filled}
 empty_alike : (braid : BraidValue) → IsBraid braid → (m : ℕ) → is_empty_degree is_killed braid m ≡ is_empty_degree is_in_kernel braid m
 empty_alike braid is m = ap (λ ws. nat_eq (length ws) 0) (sym ((one_reading braid is).alike.bases m))
 
-both_false : (b : Bool) → (b && false) ≡ false
-both_false true = refl
-both_false false = refl
-
-both_true : (b : Bool) → (b && true) ≡ b
-both_true true = refl
-both_true false = refl
-
 beyond_is : (g : GradedValue) (stop : Option Stop) (f : Combination) → IsGraded g → HasEnd g stop → reduced.is_beyond g.braid g.last f ≡ is_beyond stop g.last f
 unfolding reduced.is_beyond
 beyond_is g None f is reached =
-    ap (λ b. nat_lt g.last (longest f) && not b) (empty_alike g.braid is.braid g.last ∙ closed_is_empty g is reached) ∙ both_false (nat_lt g.last (longest f))
+    ap (λ b. nat_lt g.last (longest f) && not b) (empty_alike g.braid is.braid g.last ∙ closed_is_empty g is reached) ∙ and_right (nat_lt g.last (longest f)) false refl
 beyond_is g (Some stop) f is reached =
-    ap (λ b. nat_lt g.last (longest f) && not b) (empty_alike g.braid is.braid g.last ∙ (stopped_is_filled g stop is reached).filled) ∙ both_true (nat_lt g.last (longest f))
+    ap (λ b. nat_lt g.last (longest f) && not b) (empty_alike g.braid is.braid g.last ∙ (stopped_is_filled g stop is reached).filled) ∙ and-true (nat_lt g.last (longest f))
 
 -- the line of what the reduction answers
 pub normal_line_is : (g : GradedValue) (stop : Option Stop) (k : ℕ) (f : Combination) (n : Normal) → IsGraded g → HasEnd g stop → IsOver g.braid.letters f → n ≡ reduced.normal_of g.braid g.last f →

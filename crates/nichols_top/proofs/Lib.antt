@@ -2,7 +2,7 @@ pub mod Taking
 pub mod Finishing
 pub mod Statuses
 pub mod Conclusions
-pub mod Reading
+pub mod DocumentRead
 pub mod CommandReports
 pub mod Numbered
 pub mod EndLines
@@ -10,3 +10,4 @@ pub mod Forms
 pub mod Images
 pub mod LongExpressions
 pub mod Expressions
+mod WorkedTexts

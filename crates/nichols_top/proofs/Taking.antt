@@ -1,6 +1,7 @@
 -- What was taken, one text after the other.
 use Rattle.std.proofs.Common.{◌≡◌, ◌≢◌, ℕ, ◌+◌, ◌<◌, List, [], ◌∷◌, ◌++◌, length, take, refl, sym, ◌∙◌, ap, append_assoc, append-nil, arith, length-append, subst, Some, None}
-use Rattle.std.specs.Prelude.{Option}
+use Rattle.std.proofs.KnownBytes.{Appends-nil, Appends-trans}
+use Rattle.std.specs.Prelude.{Option, Result, Err}
 use Rattle.std.specs.Option.{option_or}
 use Rattle.std.proofs.Math.Seq.{take-append-add}
 use Rattle.std.proofs.lemmas.List.{take-append-le}
@@ -14,20 +15,10 @@ use Rattle.nichols_top.specs.declared.writer.Break.TheVariants.{Fault, Memory}
 
 -- ---- bytes
 
-appends_nothing : (a : Option (List ℕ)) → Appends a a []
-appends_nothing None = tt
-appends_nothing (Some a) = sym (append-nil a)
-
-appends_twice : (a b c : Option (List ℕ)) (xs ys : List ℕ) → Appends a b xs → Appends b c ys → Appends a c (xs ++ ys)
-appends_twice None b c xs ys p q = tt
-appends_twice (Some a) None c xs ys p q = absurd p
-appends_twice (Some a) (Some b) None xs ys p q = absurd q
-appends_twice (Some a) (Some b) (Some c) xs ys p q = q ∙ ap (λ n. n ++ ys) p ∙ append_assoc a xs ys
-
 -- a whole text, and then a proper prefix of the next
 prefix_more : (a b c : Option (List ℕ)) (xs ys : List ℕ) → Appends a b xs → AppendsProperPrefix b c ys → AppendsProperPrefix a c (xs ++ ys)
 prefix_more a b c xs ys p q =
-    (length xs + q.0, omega (arith, length-append xs ys, q.1), subst (Appends a c) (sym (take-append-add xs ys q.0)) (appends_twice a b c xs (take q.0 ys) p q.2))
+    (length xs + q.0, omega (arith, length-append xs ys, q.1), subst (Appends a c) (sym (take-append-add xs ys q.0)) (Appends-trans a b c xs (take q.0 ys) p q.2))
 
 -- a proper prefix of the first text is one of both
 prefix_first : (a b : Option (List ℕ)) (xs ys : List ℕ) → AppendsProperPrefix a b xs → AppendsProperPrefix a b (xs ++ ys)
@@ -36,10 +27,10 @@ prefix_first a b xs ys q = (q.0, omega (arith, length-append xs ys, q.1), subst 
 -- ---- texts
 
 took_nothing : {a : Seen} → Took [] a a
-took_nothing {a} = record { bytes = appends_nothing a.taken; kept = refl }
+took_nothing {a} = record { bytes = Appends-nil a.taken; kept = refl }
 
 pub took_more : {xs ys : List ℕ} {a b c : Seen} → Took xs a b → Took ys b c → Took (xs ++ ys) a c
-took_more {xs} {ys} {a} {b} {c} p q = record { bytes = appends_twice a.taken b.taken c.taken xs ys p.bytes q.bytes; kept = q.kept ∙ p.kept }
+took_more {xs} {ys} {a} {b} {c} p q = record { bytes = Appends-trans a.taken b.taken c.taken xs ys p.bytes q.bytes; kept = q.kept ∙ p.kept }
 
 pub failed_more : {xs ys : List ℕ} {a b c : Seen} → Took xs a b → Failed ys b c → Failed (xs ++ ys) a c
 failed_more {xs} {ys} {a} {b} {c} p q = record { bytes = prefix_more a.taken b.taken c.taken xs ys p.bytes q.bytes; rose = subst (λ n. Rose n c.faults) p.kept q.rose }
@@ -88,10 +79,14 @@ breaks_more {ps} {qs} {a} {b} {c} t (no_memory k less u) =
 pub no_memory_first : {ps : List Piece} {a : Written} → 0 < length ps → BreaksIn ps a a Memory
 no_memory_first some = no_memory 0 some takes_nothing
 
--- ---- one piece
+-- a break that is passed on is a fault where it was one
+pub fault_passed : {X Y : Type 0} {cause given : Break} {r : Result X Break} → r ≡ Err cause → cause ≡ given → r ≡ Err Fault → ◌≡◌ {A = Result Y Break} (Err given) (Err Fault)
+fault_passed {X} {Y} {cause} {given} {r} told same e =
+    let passed : ◌≡◌ {A = Result X Break} (Err cause) (Err Fault) = sym told ∙ e in
+    let fault_is : cause ≡ Fault = cc in
+    ap Err (sym same ∙ fault_is)
 
-pub takes_piece : (text : List ℕ) (degree : Option ℕ) {a b : Written} → Took text a.sink b.sink → b.last ≡ option_or degree a.last → Takes (piece text degree ∷ []) a b
-takes_piece text degree {a} {b} t e = record { sink = subst (λ t. Took t a.sink b.sink) (sym (append-nil text)) t; last = e }
+-- ---- one piece
 
 pub breaks_piece : (text : List ℕ) (degree : Option ℕ) {a b : Written} → Failed text a.sink b.sink → BreaksIn (piece text degree ∷ []) a b Fault
 breaks_piece text degree {a} {b} f = fault (subst (λ t. Failed t a.sink b.sink) (sym (append-nil text)) f)

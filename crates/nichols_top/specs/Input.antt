@@ -3,7 +3,7 @@ use Rattle.std.specs.Prelude.{ℕ, List, Option, None, Some, option_and_then}
 use Rattle.nichols_command.specs.Command.{command_of}
 use Rattle.nichols_command.specs.declared.command.Command.{Command}
 use Rattle.nichols_command.specs.declared.command.Command.TheVariants.{OnDocument, Points}
-use Rattle.nichols_top.specs.declared.entry.TheConstants.{DOCUMENT_LIMIT}
+use Rattle.nichols_input.specs.declared.TheConstants.{DOCUMENT_LIMIT}
 
 -- the most bytes of a command's document; without a limit it has none, and nothing is read
 abbrev pub document_limit : Command → Option ℕ

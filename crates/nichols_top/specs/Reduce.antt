@@ -9,7 +9,7 @@ use Rattle.nichols_graded.specs.declared.ends.Stop.{Stop}
 use Rattle.nichols_input.specs.Document.{DocumentValue}
 use Rattle.nichols_text.specs.Expressions.{form_line, beyond_line}
 use Rattle.nichols_top.specs.Algebra.{Scope, degrees_in, stop_in, pieces_due, status_of}
-use Rattle.nichols_top.specs.Report.{Piece, piece, numbered, Report}
+use Rattle.nichols_top.specs.Report.{Piece, piece, numbered_pieces, Report}
 
 -- whether a normal form isn't known: the algebra isn't closed, and a word is longer than its last finished degree
 abbrev pub is_beyond : Option Stop → ℕ → Combination → Bool
@@ -22,7 +22,7 @@ form_due braid e last k f = piece (if is_beyond e last f then beyond_line k last
 
 -- the normal forms of a document's expressions
 abbrev pub forms_due : DocumentValue → Scope → List Piece
-forms_due document scope = numbered (form_due document.braid (stop_in document.braid scope) (length (degrees_in document.braid scope) - 1)) 1 document.expressions
+forms_due document scope = numbered_pieces (form_due document.braid (stop_in document.braid scope) (length (degrees_in document.braid scope) - 1)) 1 document.expressions
 
 -- the report of an algebra, with the normal forms behind it
 unfoldable pub reduce_due : DocumentValue → Scope → Report

@@ -11,9 +11,9 @@ abbrev pub piece : List ℕ → Option ℕ → Piece
 piece text degree = record { text = text; degree = degree }
 
 -- a piece for each item, with the items' numbers from k on
-abbrev pub numbered : {X : Type 0} → (ℕ → X → Piece) → ℕ → List X → List Piece
-numbered f k [] = []
-numbered f k (x ∷ xs) = f k x ∷ numbered f (suc k) xs
+abbrev pub numbered_pieces : {X : Type 0} → (ℕ → X → Piece) → ℕ → List X → List Piece
+numbered_pieces f k [] = []
+numbered_pieces f k (x ∷ xs) = f k x ∷ numbered_pieces f (suc k) xs
 
 -- the pieces that are due in order, and the status
 abbrev pub Report : Type 0

@@ -4,13 +4,13 @@ use Rattle.std.specs.List.{list_any}
 use Rattle.nichols_tensor.specs.Combination.{Combination}
 use Rattle.nichols_tensor.specs.InOrder.{in_order}
 use Rattle.nichols_braid.specs.Braid.{BraidValue}
-use Rattle.nichols_braid.specs.Symmetrizer.{symmetrized}
+use Rattle.nichols_braid.specs.Symmetrizer.{symmetrizer_image}
 use Rattle.nichols_lift.specs.declared.TheConstants.{PLACE_LIMIT}
 use Rattle.nichols_input.specs.Document.{DocumentValue}
 use Rattle.nichols_text.specs.Expressions.{image_line}
 use Rattle.nichols_text.specs.Pieces.{symmetrize_piece}
 use Rattle.nichols_text.specs.Refusals.{long_expression_text}
-use Rattle.nichols_top.specs.Report.{Piece, piece, numbered, Report, line_report}
+use Rattle.nichols_top.specs.Report.{Piece, piece, numbered_pieces, Report, line_report}
 use Rattle.nichols_top.specs.declared.status.Status.TheVariants.{Complete, Refused}
 
 -- whether an expression has a word that is too long for the sum over all permutations
@@ -24,12 +24,12 @@ first_long k (f ∷ fs) = if is_long f then Some k else first_long (suc k) fs
 
 -- the image of an expression, with the number of the expression
 unfoldable pub image_due : BraidValue → ℕ → Combination → Piece
-image_due braid k f = piece (image_line k (in_order braid.field (symmetrized braid f))) None
+image_due braid k f = piece (image_line k (in_order braid.field (symmetrizer_image braid f))) None
 
 -- the header and the images
 abbrev pub images_due : DocumentValue → Report
 images_due document = record {
-  pieces = piece (symmetrize_piece document.braid) None ∷ numbered (image_due document.braid) 1 document.expressions;
+  pieces = piece (symmetrize_piece document.braid) None ∷ numbered_pieces (image_due document.braid) 1 document.expressions;
   status = Complete;
 }
 

@@ -15,8 +15,8 @@ pub record Seen : Type 0 where
   pub taken : Option (List ℕ)
   pub faults : ℕ
 
-abbrev pub seen : {X : Type 0} → (X → Option (List ℕ)) → (X → ℕ) → X → Seen
-seen taken faults sink = record { taken = taken sink; faults = faults sink }
+abbrev pub sink_seen : {X : Type 0} → (X → Option (List ℕ)) → (X → ℕ) → X → Seen
+sink_seen taken faults sink = record { taken = taken sink; faults = faults sink }
 
 -- a text was taken whole, and no write failed
 pub record Took (text : List ℕ) (before after : Seen) : Type 0 where
@@ -37,8 +37,8 @@ pub record Written : Type 0 where
   pub sink : Seen
   pub last : Option ℕ
 
-abbrev pub written : {X : Type 0} → (X → Option (List ℕ)) → (X → ℕ) → Writer X → Written
-written taken faults writer = record { sink = seen taken faults writer.sink.now; last = writer.last }
+abbrev pub writer_seen : {X : Type 0} → (X → Option (List ℕ)) → (X → ℕ) → Writer X → Written
+writer_seen taken faults writer = record { sink = sink_seen taken faults writer.sink.now; last = writer.last }
 
 -- pieces were taken whole
 pub record Takes (pieces : List Piece) (before after : Written) : Type 0 where

@@ -9,7 +9,7 @@ ghost use Rattle.nichols_graded.specs.Ends.{end_by, finished_degrees};
 ghost use Rattle.nichols_text.specs.Pieces.{degree_piece};
 ghost use Rattle.nichols_top.specs.Algebra.{scope_of, header_due, degree_due, dimensions_of, factors_at, end_line_of, status_of, end_due, pieces_due, algebra_due};
 ghost use Rattle.nichols_top.specs.Ended.{HasEnd, IsEnded};
-ghost use Rattle.nichols_top.specs.Written.{IsStopped, written, Puts, Writes};
+ghost use Rattle.nichols_top.specs.Written.{IsStopped, writer_seen, Puts, Writes};
 
 use crate::status::Status;
 use crate::writer::{Break, Writer};
@@ -38,7 +38,7 @@ pub(crate) fn put_algebra<R: Threads + Sync, K: Sink>(
 ) -> Result<Status, Break>
     requires { AreInRange options }
     ensures same_sink { out.new.sink.ghost_name ≡ out.old.sink.ghost_name }
-    ensures report { Writes (algebra_due braid (scope_of options)) (written K.taken K.faults out.old) (written K.taken K.faults out.new) result }
+    ensures report { Writes (algebra_due braid (scope_of options)) (writer_seen K.taken K.faults out.old) (writer_seen K.taken K.faults out.new) result }
     ensures stopped { result ≡ Err Break.Fault → IsStopped K.taken K.faults out.old.sink.now out.new.sink.now }
 {
     let ended = put_pieces(rt, alloc, braid, options, out)?;
@@ -55,7 +55,7 @@ pub(crate) fn put_pieces<R: Threads + Sync, K: Sink>(
 ) -> Result<Ended, Break>
     requires { AreInRange options }
     ensures same_sink { out.new.sink.ghost_name ≡ out.old.sink.ghost_name }
-    ensures pieces { Puts (pieces_due braid (scope_of options)) (written K.taken K.faults out.old) (written K.taken K.faults out.new) result }
+    ensures pieces { Puts (pieces_due braid (scope_of options)) (writer_seen K.taken K.faults out.old) (writer_seen K.taken K.faults out.new) result }
     ensures ended { IfOk result (λ e. IsEnded braid (scope_of options) e.graded e.stop) }
     ensures stopped { result ≡ Err Break.Fault → IsStopped K.taken K.faults out.old.sink.now out.new.sink.now }
 {
@@ -93,7 +93,7 @@ fn put_header<K: Sink>(
     out: &mut Writer<'_, K>,
 ) -> Result<(), Break>
     ensures same_sink { out.new.sink.ghost_name ≡ out.old.sink.ghost_name }
-    ensures piece { Puts (header_due braid.now (scope_of options) ∷ []) (written K.taken K.faults out.old) (written K.taken K.faults out.new) result }
+    ensures piece { Puts (header_due braid.now (scope_of options) ∷ []) (writer_seen K.taken K.faults out.old) (writer_seen K.taken K.faults out.new) result }
     ensures stopped { result ≡ Err Break.Fault → IsStopped K.taken K.faults out.old.sink.now out.new.sink.now }
 {
     let text = header_text(alloc, braid, options.degree_limit, options.rows_limit)?;
@@ -112,7 +112,7 @@ fn put_degrees<K: Sink>(
     ensures same_sink { out.new.sink.ghost_name ≡ out.old.sink.ghost_name }
     ensures finished { graded.now.last < length (finished_degrees graded.now.braid graded.now.limit graded.now.rows) }
     ensures pieces { Puts (map (degree_due graded.now.braid brief) (range_with_len from (suc graded.now.last - from)))
-        (written K.taken K.faults out.old) (written K.taken K.faults out.new) result }
+        (writer_seen K.taken K.faults out.old) (writer_seen K.taken K.faults out.new) result }
     ensures stopped { result ≡ Err Break.Fault → IsStopped K.taken K.faults out.old.sink.now out.new.sink.now }
 {
     let last = graded.levels().last();
@@ -145,7 +145,7 @@ fn put_degree<K: Sink>(
 ) -> Result<(), Break>
     requires { m ≤ graded.now.last }
     ensures same_sink { out.new.sink.ghost_name ≡ out.old.sink.ghost_name }
-    ensures piece { Puts (degree_due graded.now.braid brief m ∷ []) (written K.taken K.faults out.old) (written K.taken K.faults out.new) result }
+    ensures piece { Puts (degree_due graded.now.braid brief m ∷ []) (writer_seen K.taken K.faults out.old) (writer_seen K.taken K.faults out.new) result }
     ensures stopped { result ≡ Err Break.Fault → IsStopped K.taken K.faults out.old.sink.now out.new.sink.now }
 {
     let text = finished_text(alloc, graded, m, brief)?;
@@ -162,7 +162,7 @@ fn put_end<K: Sink>(
     requires { HasEnd graded.now stop }
     ensures same_sink { out.new.sink.ghost_name ≡ out.old.sink.ghost_name }
     ensures piece { Puts (end_due graded.now.braid stop (range_with_len 0 (suc graded.now.last)) ∷ [])
-        (written K.taken K.faults out.old) (written K.taken K.faults out.new) result }
+        (writer_seen K.taken K.faults out.old) (writer_seen K.taken K.faults out.new) result }
     ensures stopped { result ≡ Err Break.Fault → IsStopped K.taken K.faults out.old.sink.now out.new.sink.now }
 {
     let dimensions = graded.dimensions(alloc)?;

@@ -6,10 +6,10 @@ ghost use Rattle.nichols_tensor.specs.Combination.{AllElements};
 ghost use Rattle.nichols_tensor.specs.Words.{IsOver};
 ghost use Rattle.nichols_braid.specs.Points.{points_braid};
 ghost use Rattle.nichols_command.specs.Command.{IsAccepted, IsAcceptedTask, AreInRange, IsNumberOfPoints};
-ghost use Rattle.nichols_input.specs.declared.TheConstants.{EXPRESSION_LIMIT};
+ghost use Rattle.nichols_expression.specs.declared.TheConstants.{EXPRESSION_LIMIT};
 ghost use Rattle.nichols_top.specs.Algebra.{scope_of, algebra_due};
 ghost use Rattle.nichols_top.specs.Due.{task_due, in_brief, command_due};
-ghost use Rattle.nichols_top.specs.Written.{IsStopped, written, Writes};
+ghost use Rattle.nichols_top.specs.Written.{IsStopped, writer_seen, Writes};
 
 use crate::algebra::put_algebra;
 use crate::line::put_refusal;
@@ -35,7 +35,7 @@ pub(crate) fn put_command<R: Threads + Sync, K: Sink>(
 ) -> Result<Status, Break>
     requires { IsAccepted command }
     ensures same_sink { out.new.sink.ghost_name ≡ out.old.sink.ghost_name }
-    ensures report { Writes (command_due command document.now) (written K.taken K.faults out.old) (written K.taken K.faults out.new) result }
+    ensures report { Writes (command_due command document.now) (writer_seen K.taken K.faults out.old) (writer_seen K.taken K.faults out.new) result }
     ensures stopped { result ≡ Err Break.Fault → IsStopped K.taken K.faults out.old.sink.now out.new.sink.now }
 {
     match command {
@@ -60,7 +60,7 @@ fn put_task<R: Threads + Sync, K: Sink>(
     requires elements { AllByRecursion (AllElements document.braid.field) document.expressions }
     requires number { length document.expressions ≤ EXPRESSION_LIMIT }
     ensures same_sink { out.new.sink.ghost_name ≡ out.old.sink.ghost_name }
-    ensures report { Writes (task_due task document) (written K.taken K.faults out.old) (written K.taken K.faults out.new) result }
+    ensures report { Writes (task_due task document) (writer_seen K.taken K.faults out.old) (writer_seen K.taken K.faults out.new) result }
     ensures stopped { result ≡ Err Break.Fault → IsStopped K.taken K.faults out.old.sink.now out.new.sink.now }
 {
     match task {
@@ -81,7 +81,7 @@ fn put_points<R: Threads + Sync, K: Sink>(
     requires points { IsNumberOfPoints k }
     requires options { AreInRange options }
     ensures same_sink { out.new.sink.ghost_name ≡ out.old.sink.ghost_name }
-    ensures report { Writes (algebra_due (points_braid k) (in_brief (scope_of options))) (written K.taken K.faults out.old) (written K.taken K.faults out.new) result }
+    ensures report { Writes (algebra_due (points_braid k) (in_brief (scope_of options))) (writer_seen K.taken K.faults out.old) (writer_seen K.taken K.faults out.new) result }
     ensures stopped { result ≡ Err Break.Fault → IsStopped K.taken K.faults out.old.sink.now out.new.sink.now }
 {
     let braid = Braid::points(alloc, k)?;

@@ -10,20 +10,18 @@ ghost use Rattle.nichols_top.specs.Ends.{IsLeft, EndsAs, IsComplete, IsChosen, I
 ghost use Rattle.nichols_top.specs.Input.{document_limit, read_limit};
 ghost use Rattle.nichols_top.specs.Report.{Report};
 ghost use Rattle.nichols_top.specs.Status.{code};
-ghost use Rattle.nichols_top.specs.Written.{IsStopped, seen, written, Writes};
+ghost use Rattle.nichols_top.specs.Written.{IsStopped, sink_seen, writer_seen, Writes};
 
 use crate::commands::put_command;
 use crate::line::{put_line, put_refusal};
 use crate::status::Status;
 use crate::writer::{Break, Writer};
 use nichols_command::{Command, command_of};
+use nichols_input::DOCUMENT_LIMIT;
 use nichols_io::{ReadFault, Sink, Source, read_all};
 use nichols_text::{Refusal, read_fault_line, usage_line};
 use std::alloc::Global;
 use std::thread::Threads;
-
-/// The most bytes of a document.
-pub(crate) const DOCUMENT_LIMIT: usize = 1_048_576;
 
 /// Writes the report of a command to the sink, for the document that it reads from the source, and answers the status.
 ///
@@ -42,19 +40,19 @@ pub fn run<R: Threads + Sync, S: Source, K: Sink>(
     // What was written is the report that is due, or the stated part of it. The document is what the source had left, where
     // it tells its bytes, and else some document. Of a sink that tells no bytes this speaks of the status and the counts.
     ensures report { (document : List ℕ) × IsLeft (S.left source.old) document
-        × EndsAs (due (map string_bytes words.now) document) (Rose (S.faults source.old) (S.faults source.new)) (seen K.taken K.faults sink.old) (seen K.taken K.faults sink.new) result }
+        × EndsAs (due (map string_bytes words.now) document) (Rose (S.faults source.old) (S.faults source.new)) (sink_seen K.taken K.faults sink.old) (sink_seen K.taken K.faults sink.new) result }
 
     // Unless a count rose, the whole report was written and its status is answered, or there was no memory.
     ensures complete { ¬ Rose (S.faults source.old) (S.faults source.new) → ¬ Rose (K.faults sink.old) (K.faults sink.new) →
         (document : List ℕ) × IsLeft (S.left source.old) document
-        × IsComplete (due (map string_bytes words.now) document) (seen K.taken K.faults sink.old) (seen K.taken K.faults sink.new) result }
+        × IsComplete (due (map string_bytes words.now) document) (sink_seen K.taken K.faults sink.old) (sink_seen K.taken K.faults sink.new) result }
 
     // What a status tells.
     ensures usage { command_of (map string_bytes words.now) ≡ None → (result ≡ code Status.Usage) ⊎ ((result ≡ code Status.WriteFault) ⊎ (result ≡ code Status.Memory)) }
     ensures usage_only { result ≡ code Status.Usage → command_of (map string_bytes words.now) ≡ None }
     ensures read_fault { result ≡ code Status.ReadFault → Rose (S.faults source.old) (S.faults source.new) }
     ensures write_fault { result ≡ code Status.WriteFault → Rose (K.faults sink.old) (K.faults sink.new) }
-    ensures statuses { result ≤ 6 }
+    ensures statuses { result ≤ code Status.Memory }
 
     // Nothing is written after a write that failed.
     ensures stopped { result ≡ code Status.WriteFault → IsStopped K.taken K.faults sink.old sink.new }
@@ -86,7 +84,7 @@ fn put_report<R: Threads + Sync, S: Source, K: Sink>(
     ensures same_sink { out.new.sink.ghost_name ≡ out.old.sink.ghost_name }
     ensures report { (document : List ℕ) × IsLeft (S.left source.old) document
         × ((report : Report) × IsChosen (due (map string_bytes words.now) document) (Rose (S.faults source.old) (S.faults source.new)) report
-        × Writes report (written K.taken K.faults out.old) (written K.taken K.faults out.new) result) }
+        × Writes report (writer_seen K.taken K.faults out.old) (writer_seen K.taken K.faults out.new) result) }
     ensures usage { command_of (map string_bytes words.now) ≡ None → (result ≡ Ok Status.Usage) ⊎ IsErr result }
     ensures source_kept { ((result ≡ Ok Status.ReadFault) ⊎ (result ≡ Err Break.Fault)) ⊎ (S.faults source.new ≡ S.faults source.old) }
     ensures unread { read_limit (map string_bytes words.now) ≡ None → source.new ≡ source.old }

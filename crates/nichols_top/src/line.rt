@@ -3,7 +3,7 @@
 ghost use Rattle.std.specs.Prelude.{◌≡◌, ◌⊎◌, None, IfSome, IfOk};
 ghost use Rattle.nichols_text.specs.Refusals.{refusal_line};
 ghost use Rattle.nichols_top.specs.Report.{line_report};
-ghost use Rattle.nichols_top.specs.Written.{IsStopped, written, Writes};
+ghost use Rattle.nichols_top.specs.Written.{IsStopped, writer_seen, Writes};
 
 use crate::status::Status;
 use crate::writer::{Break, Writer};
@@ -18,8 +18,8 @@ pub(crate) fn put_refusal<K: Sink>(
     out: &mut Writer<'_, K>,
 ) -> Result<Status, Break>
     ensures same_sink { out.new.sink.ghost_name ≡ out.old.sink.ghost_name }
-    ensures report { IfSome (refusal_line refusal.now) (λ line. Writes (line_report line Status.Refused) (written K.taken K.faults out.old) (written K.taken K.faults out.new) result) }
-    ensures memory { refusal_line refusal.now ≡ None → (result ≡ Err Break.Memory) × (written K.taken K.faults out.new ≡ written K.taken K.faults out.old) }
+    ensures report { IfSome (refusal_line refusal.now) (λ line. Writes (line_report line Status.Refused) (writer_seen K.taken K.faults out.old) (writer_seen K.taken K.faults out.new) result) }
+    ensures memory { refusal_line refusal.now ≡ None → (result ≡ Err Break.Memory) × (writer_seen K.taken K.faults out.new ≡ writer_seen K.taken K.faults out.old) }
     ensures status { IfOk result (λ s. s ≡ Status.Refused) }
     ensures stopped { result ≡ Err Break.Fault → IsStopped K.taken K.faults out.old.sink.now out.new.sink.now }
 {
@@ -34,7 +34,7 @@ pub(crate) fn put_line<K: Sink>(
     out: &mut Writer<'_, K>,
 ) -> Result<Status, Break>
     ensures same_sink { out.new.sink.ghost_name ≡ out.old.sink.ghost_name }
-    ensures report { Writes (line_report line.now status) (written K.taken K.faults out.old) (written K.taken K.faults out.new) result }
+    ensures report { Writes (line_report line.now status) (writer_seen K.taken K.faults out.old) (writer_seen K.taken K.faults out.new) result }
     ensures answer { (result ≡ Ok status) ⊎ (result ≡ Err Break.Fault) }
     ensures stopped { result ≡ Err Break.Fault → IsStopped K.taken K.faults out.old.sink.now out.new.sink.now }
 {

@@ -5,13 +5,13 @@ ghost use Rattle.std.specs.List.{AllByRecursion};
 ghost use Rattle.nichols_tensor.specs.Combination.{AllElements};
 ghost use Rattle.nichols_tensor.specs.Words.{IsOver};
 ghost use Rattle.nichols_command.specs.Command.{AreInRange};
-ghost use Rattle.nichols_input.specs.declared.TheConstants.{EXPRESSION_LIMIT};
+ghost use Rattle.nichols_expression.specs.declared.TheConstants.{EXPRESSION_LIMIT};
 ghost use Rattle.nichols_top.specs.Algebra.{scope_of};
 ghost use Rattle.nichols_top.specs.Ended.{HasEnd};
 ghost use Rattle.nichols_top.specs.NormalLine.{normal_line};
 ghost use Rattle.nichols_top.specs.Reduce.{form_due, reduce_due};
-ghost use Rattle.nichols_top.specs.Report.{numbered};
-ghost use Rattle.nichols_top.specs.Written.{IsStopped, written, Puts, Writes};
+ghost use Rattle.nichols_top.specs.Report.{numbered_pieces};
+ghost use Rattle.nichols_top.specs.Written.{IsStopped, writer_seen, Puts, Writes};
 
 use crate::algebra::{Ended, put_pieces, status_of};
 use crate::status::Status;
@@ -38,7 +38,7 @@ pub(crate) fn put_reduce<R: Threads + Sync, K: Sink>(
     requires elements { AllByRecursion (AllElements document.braid.field) document.expressions }
     requires number { length document.expressions ≤ EXPRESSION_LIMIT }
     ensures same_sink { out.new.sink.ghost_name ≡ out.old.sink.ghost_name }
-    ensures report { Writes (reduce_due document (scope_of options)) (written K.taken K.faults out.old) (written K.taken K.faults out.new) result }
+    ensures report { Writes (reduce_due document (scope_of options)) (writer_seen K.taken K.faults out.old) (writer_seen K.taken K.faults out.new) result }
     ensures stopped { result ≡ Err Break.Fault → IsStopped K.taken K.faults out.old.sink.now out.new.sink.now }
 {
     let Document { braid, expressions } = document;
@@ -59,7 +59,7 @@ fn put_forms<K: Sink>(
     requires elements { AllByRecursion (AllElements ended.now.graded.braid.field) expressions.now }
     requires number { length expressions.now ≤ EXPRESSION_LIMIT }
     ensures same_sink { out.new.sink.ghost_name ≡ out.old.sink.ghost_name }
-    ensures pieces { Puts (numbered (form_due ended.now.graded.braid ended.now.stop ended.now.graded.last) 1 expressions.now) (written K.taken K.faults out.old) (written K.taken K.faults out.new) result }
+    ensures pieces { Puts (numbered_pieces (form_due ended.now.graded.braid ended.now.stop ended.now.graded.last) 1 expressions.now) (writer_seen K.taken K.faults out.old) (writer_seen K.taken K.faults out.new) result }
     ensures stopped { result ≡ Err Break.Fault → IsStopped K.taken K.faults out.old.sink.now out.new.sink.now }
 {
     let mut number = 1;
@@ -82,7 +82,7 @@ fn put_form<K: Sink>(
     requires letters { IsOver ended.now.graded.braid.letters expression.now }
     requires elements { AllElements ended.now.graded.braid.field expression.now }
     ensures same_sink { out.new.sink.ghost_name ≡ out.old.sink.ghost_name }
-    ensures piece { Puts (form_due ended.now.graded.braid ended.now.stop ended.now.graded.last number expression.now ∷ []) (written K.taken K.faults out.old) (written K.taken K.faults out.new) result }
+    ensures piece { Puts (form_due ended.now.graded.braid ended.now.stop ended.now.graded.last number expression.now ∷ []) (writer_seen K.taken K.faults out.old) (writer_seen K.taken K.faults out.new) result }
     ensures stopped { result ≡ Err Break.Fault → IsStopped K.taken K.faults out.old.sink.now out.new.sink.now }
 {
     let normal = normal(alloc, ended.graded.levels(), expression)?;

@@ -4,13 +4,13 @@ ghost use Rattle.std.specs.Prelude.{◌≡◌, ◌≤◌, [], ◌∷◌, length,
 ghost use Rattle.std.specs.List.{AllByRecursion};
 ghost use Rattle.nichols_tensor.specs.Combination.{AllElements};
 ghost use Rattle.nichols_tensor.specs.Words.{IsOver};
-ghost use Rattle.nichols_input.specs.declared.TheConstants.{EXPRESSION_LIMIT};
+ghost use Rattle.nichols_expression.specs.declared.TheConstants.{EXPRESSION_LIMIT};
 ghost use Rattle.nichols_lift.specs.Lengths.{AllAtMost};
 ghost use Rattle.nichols_lift.specs.declared.TheConstants.{PLACE_LIMIT};
 ghost use Rattle.nichols_text.specs.Pieces.{symmetrize_piece};
-ghost use Rattle.nichols_top.specs.Report.{piece, numbered};
+ghost use Rattle.nichols_top.specs.Report.{piece, numbered_pieces};
 ghost use Rattle.nichols_top.specs.Symmetrize.{is_long, first_long, image_due, symmetrize_due};
-ghost use Rattle.nichols_top.specs.Written.{IsStopped, written, Puts, Writes};
+ghost use Rattle.nichols_top.specs.Written.{IsStopped, writer_seen, Puts, Writes};
 
 use crate::line::put_refusal;
 use crate::status::Status;
@@ -33,7 +33,7 @@ pub(crate) fn put_symmetrize<K: Sink>(
     requires elements { AllByRecursion (AllElements document.now.braid.field) document.now.expressions }
     requires number { length document.now.expressions ≤ EXPRESSION_LIMIT }
     ensures same_sink { out.new.sink.ghost_name ≡ out.old.sink.ghost_name }
-    ensures report { Writes (symmetrize_due document.now) (written K.taken K.faults out.old) (written K.taken K.faults out.new) result }
+    ensures report { Writes (symmetrize_due document.now) (writer_seen K.taken K.faults out.old) (writer_seen K.taken K.faults out.new) result }
     ensures stopped { result ≡ Err Break.Fault → IsStopped K.taken K.faults out.old.sink.now out.new.sink.now }
 {
     let expressions = document.expressions.as_slice();
@@ -74,7 +74,7 @@ fn is_long(expression: &Comb) -> bool
 /// Writes the header.
 fn put_header<K: Sink>(alloc: Global, braid: &Braid, out: &mut Writer<'_, K>) -> Result<(), Break>
     ensures same_sink { out.new.sink.ghost_name ≡ out.old.sink.ghost_name }
-    ensures piece { Puts (piece (symmetrize_piece braid.now) None ∷ []) (written K.taken K.faults out.old) (written K.taken K.faults out.new) result }
+    ensures piece { Puts (piece (symmetrize_piece braid.now) None ∷ []) (writer_seen K.taken K.faults out.old) (writer_seen K.taken K.faults out.new) result }
     ensures stopped { result ≡ Err Break.Fault → IsStopped K.taken K.faults out.old.sink.now out.new.sink.now }
 {
     let text = symmetrize_header(alloc, braid)?;
@@ -93,7 +93,7 @@ fn put_images<K: Sink>(
     requires short { AllByRecursion (AllAtMost PLACE_LIMIT) expressions.now }
     requires number { length expressions.now ≤ EXPRESSION_LIMIT }
     ensures same_sink { out.new.sink.ghost_name ≡ out.old.sink.ghost_name }
-    ensures pieces { Puts (numbered (image_due braid.now) 1 expressions.now) (written K.taken K.faults out.old) (written K.taken K.faults out.new) result }
+    ensures pieces { Puts (numbered_pieces (image_due braid.now) 1 expressions.now) (writer_seen K.taken K.faults out.old) (writer_seen K.taken K.faults out.new) result }
     ensures stopped { result ≡ Err Break.Fault → IsStopped K.taken K.faults out.old.sink.now out.new.sink.now }
 {
     let mut number = 1;
@@ -116,7 +116,7 @@ fn put_image<K: Sink>(
     requires elements { AllElements braid.now.field expression.now }
     requires short { AllAtMost PLACE_LIMIT expression.now }
     ensures same_sink { out.new.sink.ghost_name ≡ out.old.sink.ghost_name }
-    ensures piece { Puts (image_due braid.now number expression.now ∷ []) (written K.taken K.faults out.old) (written K.taken K.faults out.new) result }
+    ensures piece { Puts (image_due braid.now number expression.now ∷ []) (writer_seen K.taken K.faults out.old) (writer_seen K.taken K.faults out.new) result }
     ensures stopped { result ≡ Err Break.Fault → IsStopped K.taken K.faults out.old.sink.now out.new.sink.now }
 {
     let _field = braid.field();

@@ -1,6 +1,6 @@
 //! Runs over memory, and what they write.
 
-ghost use Rattle.std.specs.Prelude.{◌<◌};
+ghost use Rattle.std.specs.Prelude.{◌≡◌, ◌<◌};
 
 mod algebras;
 mod expressions;
@@ -22,6 +22,29 @@ pub(crate) const THREE: &str =
 /// The same with one scalar for every place.
 pub(crate) const THREE_BY_A_CONSTANT: &str =
     "modulus = 101\nrack = [[1, 3, 2], [3, 2, 1], [2, 1, 3]]\ncocycle = -1\n";
+
+/// The tetrahedron, over 101 elements.
+pub(crate) const TETRAHEDRON: &str =
+    "modulus = 101\nrack = [[1, 4, 2, 3], [3, 2, 4, 1], [4, 1, 3, 2], [2, 3, 1, 4]]\ncocycle = -1\n";
+
+/// The tetrahedron, over 2 elements.
+pub(crate) const TETRAHEDRON_TWO: &str =
+    "modulus = 2\nrack = [[1, 4, 2, 3], [3, 2, 4, 1], [4, 1, 3, 2], [2, 3, 1, 4]]\ncocycle = 1\n";
+
+/// The six transpositions of four points.
+pub(crate) const SIX_TRANSPOSITIONS: &str =
+    "modulus = 101\nrack = [[1, 4, 5, 2, 3, 6], [4, 2, 6, 1, 5, 3], [5, 6, 3, 4, 1, 2], [2, 1, 3, 4, 6, 5], [3, 2, 1, 6, 5, 4], [1, 3, 2, 5, 4, 6]]\ncocycle = -1\n";
+
+/// The affine rack of five letters.
+pub(crate) const AFFINE_FIVE: &str =
+    "modulus = 101\nrack = [[1, 3, 5, 2, 4], [5, 2, 4, 1, 3], [4, 1, 3, 5, 2], [3, 5, 2, 4, 1], [2, 4, 1, 3, 5]]\ncocycle = -1\n";
+
+/// The words of the report up to degree 2.
+pub(crate) const UP_TO_TWO: &[&str] = &["algebra", "--degree", "2"];
+
+/// The brief report of four points up to degree 3.
+pub(crate) const FOUR_POINTS_TO_THREE: &str =
+    "nichols p 101 letters 6 degree 3 rows 1024\ndegree 0 dimension 1\ndegree 1 dimension 6\ndegree 2 dimension 19\ndegree 3 dimension 42\nstopped degree limit last 3\nhilbert 1 6 19 42\n";
 
 /// The degrees 0 to 4 of the three transpositions, with the scalar -1 over 101 elements.
 pub(crate) const DEGREES: &str =
@@ -51,6 +74,21 @@ pub(crate) struct Run<'a> {
     pub(crate) reads: &'a [u64],
     pub(crate) writes: &'a [u64],
     pub(crate) most: usize,
+}
+
+impl<'a> Run<'a> {
+    /// A run in which nothing fails.
+    pub(crate) fn steady(words: &'a [&'a str], document: &'a [u8]) -> Run<'a>
+        ensures { result.most ≡ 4096 }
+    {
+        Run {
+            words,
+            document,
+            reads: &[],
+            writes: &[],
+            most: 4096,
+        }
+    }
 }
 
 fn words_of(alloc: Global, line: &[&str]) -> Result<Vec<String>, AllocError> {
@@ -90,11 +128,8 @@ pub(crate) fn are_written<R: Threads + Sync>(
     }
     for most in [4096, 5] {
         let given = Run {
-            words,
-            document: document.as_bytes(),
-            reads: &[],
-            writes: &[],
             most,
+            ..Run::steady(words, document.as_bytes())
         };
         let (written, ended) = ran(rt, alloc, given)?;
         if written.as_slice() != text.as_slice() || ended != status {

@@ -2,7 +2,7 @@
 
 ghost use Rattle.std.specs.Prelude.{◌≡◌, ◌≢◌, [], ◌∷◌};
 ghost use Rattle.nichols_top.specs.Report.{piece};
-ghost use Rattle.nichols_top.specs.Written.{IsStopped, written, Puts};
+ghost use Rattle.nichols_top.specs.Written.{IsStopped, writer_seen, Puts};
 ghost use Rattle.nichols_top.specs.Conclusion.{Concludes};
 ghost use Rattle.nichols_top.specs.declared.writer.Break.TheVariants.{Memory};
 
@@ -48,7 +48,7 @@ impl<'k, K: Sink> Writer<'k, K> {
     /// Writes a piece, with the degree that it prints, if any. The only break is that the sink failed.
     pub(crate) fn put(&mut self, text: &[u8], degree: Option<u32>) -> Result<(), Break>
         ensures same_sink { self.new.sink.ghost_name ≡ self.old.sink.ghost_name }
-        ensures piece { Puts (piece text.now degree ∷ []) (written K.taken K.faults self.old) (written K.taken K.faults self.new) result }
+        ensures piece { Puts (piece text.now degree ∷ []) (writer_seen K.taken K.faults self.old) (writer_seen K.taken K.faults self.new) result }
         ensures cause { result ≢ Err Break.Memory }
         ensures stopped { result ≡ Err Break.Fault → IsStopped K.taken K.faults self.old.sink.now self.new.sink.now }
     {
@@ -62,7 +62,7 @@ impl<'k, K: Sink> Writer<'k, K> {
     /// Ends the report: writes the memory line, where there was no memory, and answers the status.
     pub(crate) fn conclude(&mut self, report: Result<Status, Break>) -> Status
         ensures same_sink { self.new.sink.ghost_name ≡ self.old.sink.ghost_name }
-        ensures status { Concludes (written K.taken K.faults self.old) (written K.taken K.faults self.new) report result }
+        ensures status { Concludes (writer_seen K.taken K.faults self.old) (writer_seen K.taken K.faults self.new) report result }
         ensures stopped { report ≡ Err Break.Memory → result ≡ Status.WriteFault → IsStopped K.taken K.faults self.old.sink.now self.new.sink.now }
     {
         match report {
@@ -77,7 +77,7 @@ impl<'k, K: Sink> Writer<'k, K> {
     /// Writes the memory line, which names the last degree that was printed, and answers the status.
     fn put_memory(&mut self) -> Status
         ensures same_sink { self.new.sink.ghost_name ≡ self.old.sink.ghost_name }
-        ensures status { Concludes (written K.taken K.faults self.old) (written K.taken K.faults self.new) (Err Break.Memory) result }
+        ensures status { Concludes (writer_seen K.taken K.faults self.old) (writer_seen K.taken K.faults self.new) (Err Break.Memory) result }
         ensures stopped { result ≡ Status.WriteFault → IsStopped K.taken K.faults self.old.sink.now self.new.sink.now }
     {
         match self.put(memory_line(self.last).bytes(), None) {

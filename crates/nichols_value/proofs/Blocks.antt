@@ -1,23 +1,23 @@
 -- The least words of blocks and of their lower blocks, and that normal forms stay in their block.
-use Rattle.std.proofs.Common.{◌≡◌, ℕ, zero, suc, ◌<◌, ◌≤◌, Bool, true, false, not, List, [], ◌∷◌, ◌++◌, map, length, refl, sym, ◌∙◌, ap, ap₂, subst, arith, nat_eq, eq-eqb}
+use Rattle.std.proofs.Common.{◌≡◌, ℕ, zero, suc, ◌<◌, ◌≤◌, true, false, not, List, [], ◌∷◌, ◌++◌, map, length, refl, sym, ◌∙◌, ap, ap₂, subst, arith, nat_eq, eq-eqb}
 use Rattle.std.specs.Prelude.{unwrap_or, slice_index, ◌&&◌, ◌-◌}
 use Rattle.std.specs.List.{filter, sum_by, AllByRecursion, Contains}
 use Rattle.std.specs.Cmp.Lexicographic.{same_text}
-use Rattle.std.proofs.lemmas.Bool.{eqb-true}
+use Rattle.std.proofs.lemmas.Bool.{eqb-true, and_parts, not-true}
 use Rattle.nichols_field.specs.Field.{negative}
-use Rattle.nichols_tensor.specs.Combination.{Term, Combination, AllAmong, same_letters, single, scaled, minus}
+use Rattle.nichols_tensor.specs.Combination.{Term, Combination, AllAmong, same_letters, single, scalar_multiple, minus}
 use Rattle.nichols_tensor.specs.Relation.{PlainRelation}
 use Rattle.nichols_tensor.specs.Words.{up_to, IsWordOver, IsOver, HasDegree}
 use Rattle.nichols_tensor.specs.WordOrder.{IsRising}
-use Rattle.nichols_tensor.proofs.Entries.{contains_first, in_filter, from_filter, in_map, from_map, from_flat_map, any_of, some_of}
+use Rattle.nichols_tensor.proofs.Entries.{in_filter, from_filter, in_map, from_map, from_flat_map, any_of, some_of}
 use Rattle.nichols_tensor.proofs.Letters.{in_up_to, from_up_to}
 use Rattle.nichols_tensor.proofs.Over.{all-weaker, all_at}
-use Rattle.nichols_tensor.proofs.Parts.{part-append, part-scaled, part_of_all, all-part, elements-part, ordered-part}
-use Rattle.nichols_tensor.proofs.Rising.{rising-filter, rising_kept}
+use Rattle.nichols_tensor.proofs.Parts.{part-append, part-scalar_multiple, part_of_all, all-part, elements-part, ordered-part}
+use Rattle.nichols_tensor.proofs.Rising.{rising-filter}
 use Rattle.nichols_tensor.proofs.Tests.{map_same, find_same, all_of_entries}
 use Rattle.nichols_tensor.proofs.Values.{same_itself}
 use Rattle.nichols_braid.specs.Braid.{BraidValue, IsBraid, IsLetter, act}
-use Rattle.nichols_braid.specs.Derivation.{derived, derived_word}
+use Rattle.nichols_braid.specs.Derivation.{skew_derivative, derived_word}
 use Rattle.nichols_braid.specs.Forms.{derived_form}
 use Rattle.nichols_braid.specs.Kernel.{is_killed, IsKilled}
 use Rattle.nichols_braid.specs.Least.{is_least, basis, normal_form, candidates, relations}
@@ -26,15 +26,16 @@ use Rattle.nichols_braid.specs.Product.{product_of, has_product, product_before,
 use Rattle.nichols_braid.specs.Products.{leading, products, rows}
 use Rattle.nichols_braid.proofs.BraidLaws.{killed_is_linear}
 use Rattle.nichols_braid.proofs.Candidates.{in_candidates}
-use Rattle.nichols_braid.proofs.Degrees.{words-append, words-scaled, derived_degree, derived_over}
+use Rattle.nichols_braid.proofs.Degrees.{words-append, words-scalar_multiple, derived_degree, derived_over}
 use Rattle.nichols_braid.proofs.InlineProducts.{after_a_word, after_before, row_entry}
 use Rattle.nichols_braid.proofs.Killed.{is_killed_sound, is_killed_complete}
-use Rattle.nichols_braid.proofs.LeastLaws.{normal_forms_are_unique, relations_rise}
+use Rattle.nichols_braid.proofs.LeastLaws.{normal_forms_are_unique}
 use Rattle.nichols_braid.proofs.Degrees.{minus_over}
 use Rattle.nichols_braid.proofs.ProductLaws.{product_before_a_letter, products_of_derivatives}
 use Rattle.nichols_braid.proofs.ProductListLaws.{leading_letter_is_first, products_are_of_words, rows_by_letters}
 use Rattle.nichols_braid.proofs.Reduction.{basis_rises, from_basis}
 use Rattle.nichols_braid.proofs.SplitByProduct.{killed_part}
+use Rattle.nichols_braid.proofs.Prefixes.{no_entries}
 use Rattle.nichols_value.specs.Block.{block_basis, block_relations, lower_basis, has_block, lower_letters}
 
 -- ---- products
@@ -74,13 +75,9 @@ block_of_word braid m g w i =
     let (size, over, least) = from_basis is_killed braid m w j in
     (products_are_of_words braid m g).1 (w, size, over, e)
 
-none_in : (ws : List (List ℕ)) → ((w : List ℕ) → Contains ws w → ⊥) → ws ≡ []
-none_in [] h = refl
-none_in (w ∷ ws) h = absurd (h w (contains_first w ws))
-
 -- a product of no word has no least words
 pub no_block_basis : (braid : BraidValue) (m : ℕ) (g : List ℕ) → (Contains (products braid m) g → ⊥) → block_basis braid m g ≡ []
-no_block_basis braid m g none = none_in (block_basis braid m g) (λ w i. none (block_of_word braid m g w i))
+no_block_basis braid m g none = no_entries (block_basis braid m g) (λ w i. none (block_of_word braid m g w i))
 
 -- ---- the least words of a lower block
 
@@ -161,12 +158,8 @@ pub from_lower_letters : (braid : BraidValue) (m : ℕ) (g : List ℕ) (a : ℕ)
 unfolding lower_letters
 from_lower_letters braid m g a i =
     let (j, h) = from_filter (λ b. nat_eq (leading braid b) b && has_block braid m (product_before braid b g)) a (up_to braid.letters) i in
-    let (first, there) = both (nat_eq (leading braid a) a) (has_block braid m (product_before braid a g)) h in
+    let (first, there) = and_parts (nat_eq (leading braid a) a) (has_block braid m (product_before braid a g)) h in
     (from_up_to braid.letters a j, eqb-true (leading braid a) a first, block_is braid m (product_before braid a g) there)
-  where
-    both : (b c : Bool) → (b && c) ≡ true → (b ≡ true) × (c ≡ true)
-    both true c h = (refl, h)
-    both false c h = absurd (let e : false ≡ true = h in cc)
 
 -- the leading letter of a letter is its own leading letter
 pub leading_of_leading : (braid : BraidValue) (a : ℕ) → IsLetter braid a → leading braid (leading braid a) ≡ leading braid a
@@ -185,7 +178,7 @@ lower_letter_of braid m g a la u i =
 
 -- and a letter whose leading letter isn't a lower letter has none
 pub no_lower_letter : (braid : BraidValue) (m : ℕ) (g : List ℕ) (a : ℕ) → IsLetter braid a → (Contains (lower_letters braid (suc m) g) (leading braid a) → ⊥) → lower_basis braid (suc m) g a ≡ []
-no_lower_letter braid m g a la none = none_in (lower_basis braid (suc m) g a) (λ u i. none (lower_letter_of braid m g a la u i))
+no_lower_letter braid m g a la none = no_entries (lower_basis braid (suc m) g a) (λ u i. none (lower_letter_of braid m g a la u i))
 
 -- ---- normal forms
 
@@ -216,9 +209,9 @@ normal_form_in_block braid is m g f degree over same =
 
     difference : part_of_product braid g (minus braid.field f form) ≡ minus braid.field f kept
     difference =
-        part-append (has_product braid g) f (scaled braid.field (negative braid.field 1) form)
+        part-append (has_product braid g) f (scalar_multiple braid.field (negative braid.field 1) form)
         ∙ ap₂ (λ x y. x ++ y) (part_of_all (has_product braid g) f (all-weaker (λ (t : Term). product_of braid t.word ≡ g) (λ (t : Term). has_product braid g t.word ≡ true) (λ t e. has_product_is braid g t.word e) f same))
-        (part-scaled braid.field (has_product braid g) (negative braid.field 1) form)
+        (part-scalar_multiple braid.field (has_product braid g) (negative braid.field 1) form)
 
     itself : form ≡ kept
     itself = unique.1 kept (record {
@@ -235,18 +228,18 @@ pub normal_in_block : (braid : BraidValue) → IsBraid braid → (m : ℕ) (g w 
 normal_in_block braid is m g w size over e = normal_form_in_block braid is m g (single w) (size, tt) (over, tt) (e, tt)
 
 -- the derivative by a letter has words of the lower block by it
-pub derivative_products : (braid : BraidValue) → IsBraid braid → (a : ℕ) → IsLetter braid a → (w : List ℕ) → IsWordOver braid.letters w → AllByRecursion (λ t. product_of braid t.word ≡ product_before braid a (product_of braid w)) (derived braid a (single w))
+pub derivative_products : (braid : BraidValue) → IsBraid braid → (a : ℕ) → IsLetter braid a → (w : List ℕ) → IsWordOver braid.letters w → AllByRecursion (λ t. product_of braid t.word ≡ product_before braid a (product_of braid w)) (skew_derivative braid a (single w))
 derivative_products braid is a la w over =
-    words-append (λ v. product_of braid v ≡ product_before braid a (product_of braid w)) (scaled braid.field 1 (derived_word braid a w)) []
-    (words-scaled (λ v. product_of braid v ≡ product_before braid a (product_of braid w)) braid.field 1 (derived_word braid a w) (products_of_derivatives braid is a w la over)) tt
+    words-append (λ v. product_of braid v ≡ product_before braid a (product_of braid w)) (scalar_multiple braid.field 1 (derived_word braid a w)) []
+    (words-scalar_multiple (λ v. product_of braid v ≡ product_before braid a (product_of braid w)) braid.field 1 (derived_word braid a w) (products_of_derivatives braid is a w la over)) tt
 
 -- and so has its normal form
 pub derived_in_block : (braid : BraidValue) → IsBraid braid → (m : ℕ) (g w : List ℕ) → length w ≡ m → IsWordOver braid.letters w → product_of braid w ≡ g → (a : ℕ) → IsLetter braid a → AllAmong (derived_form is_killed braid m w a) (lower_basis braid m g a)
 unfolding derived_form lower_basis AllAmong
 derived_in_block braid is zero g w size over e a la = tt
 derived_in_block braid is (suc m) g w size over e a la =
-    normal_form_in_block braid is m (product_before braid a g) (derived braid a (single w)) (derived_degree braid a m (single w) (size, tt)) (derived_over braid is.rack a la (single w) (over, tt))
-    (subst (λ h. AllByRecursion (λ (t : Term). product_of braid t.word ≡ product_before braid a h) (derived braid a (single w))) e (derivative_products braid is a la w over))
+    normal_form_in_block braid is m (product_before braid a g) (skew_derivative braid a (single w)) (derived_degree braid a m (single w) (size, tt)) (derived_over braid is.rack a la (single w) (over, tt))
+    (subst (λ h. AllByRecursion (λ (t : Term). product_of braid t.word ≡ product_before braid a h) (skew_derivative braid a (single w))) e (derivative_products braid is a la w over))
 
 -- ---- candidates
 
@@ -293,14 +286,6 @@ from_block_relations braid m g r i =
     let same : r.candidate ≡ w = ap (λ (s : PlainRelation). s.candidate) e in (
       subst (Contains (candidates is_killed braid m)) (sym same) there,
       product_is braid g r.candidate h,
-      ap (is_least is_killed braid) same ∙ turned (is_least is_killed braid w) not_least,
+      ap (is_least is_killed braid) same ∙ not-true (is_least is_killed braid w) not_least,
       e ∙ ap (relation_of braid m) (sym same),
     )
-  where
-    turned : (b : Bool) → not b ≡ true → b ≡ false
-    turned true h = absurd (let e : false ≡ true = h in cc)
-    turned false h = refl
-
-pub block_relations_rise : (braid : BraidValue) (m : ℕ) (g : List ℕ) → IsRising (map (λ (r : PlainRelation). r.candidate) (block_relations braid m g))
-unfolding block_relations
-block_relations_rise braid m g = rising_kept (λ (r : PlainRelation). r.candidate) (λ (r : PlainRelation). has_product braid g r.candidate) (relations is_killed braid m) (relations_rise is_killed braid m)

@@ -12,9 +12,10 @@ use Rattle.nichols_tensor.proofs.Ordered.{is_in_or_not, ordered_unique, zero_at_
 use Rattle.nichols_tensor.proofs.Over.{all_at, all_of_words}
 use Rattle.nichols_tensor.proofs.Rising.{position_of, words_at_rise}
 use Rattle.nichols_tensor.proofs.Values.{same_itself}
+use Rattle.nichols_tensor.proofs.Entries.{contains_none}
 use Rattle.nichols_echelon.specs.Cells.{AllBelow, Cell, IsRow, entry}
 use Rattle.nichols_echelon.specs.Cells.{AllElements as AllCellsElements}
-use Rattle.nichols_echelon.proofs.Entries.{entry-cons, entry-nil, same_cell}
+use Rattle.nichols_echelon.proofs.Entries.{entry-cons, entry-nil}
 use Rattle.nichols_rows.specs.CombinationAt.{combination_at}
 use Rattle.nichols_rows.proofs.Rows.{combination_among, combination_elements, combination_is_ordered}
 use Rattle.nichols_value.specs.Kept.{AreCellsOf}
@@ -47,22 +48,21 @@ pub form_entry : (k : FieldValue) (ws : List (List ℕ)) (f : Combination) (cell
 form_entry k ws f cells r are p within = entry_at_place k ws r cells are.below p within ∙ ap (λ (g : Combination). value_at k g (word_at ws p)) are.form
 
 -- the coefficients are those of the form
-elements_back : (k : FieldValue) (ws : List (List ℕ)) (cells : List Cell) → AllElements k (combination_at ws cells) → AllCellsElements k cells
+pub elements_back : (k : FieldValue) (ws : List (List ℕ)) (cells : List Cell) → AllElements k (combination_at ws cells) → AllCellsElements k cells
 elements_back k ws [] e = tt
 elements_back k ws (c ∷ cells) e = (e.0, elements_back k ws cells e.1)
 
 pub form_cells_elements : (k : FieldValue) (ws : List (List ℕ)) (f : Combination) (cells : List Cell) → AllElements k f → AreCellsOf ws f cells → AllCellsElements k cells
 form_cells_elements k ws f cells e are = elements_back k ws cells (subst (AllElements k) (sym are.form) e)
 
--- a form has no other words than those of the list, and its words rise
-pub form_among : (ws : List (List ℕ)) (f : Combination) (cells : List Cell) → AreCellsOf ws f cells → AllAmong f ws
-form_among ws f cells are = subst (λ (g : Combination). AllAmong g ws) are.form (combination_among ws cells are.below)
-
-pub form_is_ordered : (ws : List (List ℕ)) (f : Combination) (cells : List Cell) → IsRising ws → AreCellsOf ws f cells → IsOrdered f
-form_is_ordered ws f cells r are = subst IsOrdered are.form (combination_is_ordered ws r cells are.row are.below)
+-- a form of no words is 0
+pub none_among : (f : Combination) → AllAmong f [] → f ≡ []
+unfolding AllAmong
+none_among [] h = refl
+none_among (t ∷ f) h = absurd (contains_none t.word h.0)
 
 -- a word that isn't in the list has no value
-no_value : (k : FieldValue) → IsField k → (ws : List (List ℕ)) (f : Combination) → AllAmong f ws → (w : List ℕ) → (Contains ws w → ⊥) → value_at k f w ≡ 0
+pub no_value : (k : FieldValue) → IsField k → (ws : List (List ℕ)) (f : Combination) → AllAmong f ws → (w : List ℕ) → (Contains ws w → ⊥) → value_at k f w ≡ 0
 unfolding AllAmong
 no_value k is ws f among w none = zero_at_others k is f w (λ i. none (all_at (λ v. Contains ws v) (words_of f) w (all_of_words (λ v. Contains ws v) f among) i))
 
@@ -83,29 +83,3 @@ cells_of_form k is ws f cells r row below elements among ordered form_elements s
               subst (λ (v : List ℕ). value_at k (combination_at ws cells) v ≡ value_at k f v) here (sym (entry_at_place k ws r cells below p within) ∙ same p within)
           | inr none ↦ no_value k is ws (combination_at ws cells) (combination_among ws cells below) w none ∙ sym (no_value k is ws f among w none)
         ]
-
--- a form alone determines its cells
-pub cells_are_one : (ws : List (List ℕ)) (f g : Combination) (cells others : List Cell) → IsRising ws → AreCellsOf ws f cells → AreCellsOf ws g others → f ≡ g → cells ≡ others
-cells_are_one ws f g [] [] r are also same = refl
-cells_are_one ws f g [] (d ∷ others) r are also same = absurd (let e : ◌≡◌ {A = Combination} [] (combination_at ws (d ∷ others)) = are.form ∙ same ∙ sym also.form in cc)
-cells_are_one ws f g (c ∷ cells) [] r are also same = absurd (let e : ◌≡◌ {A = Combination} (combination_at ws (c ∷ cells)) [] = are.form ∙ same ∙ sym also.form in cc)
-cells_are_one ws f g (c ∷ cells) (d ∷ others) r are also same =
-    let e : combination_at ws (c ∷ cells) ≡ combination_at ws (d ∷ others) = are.form ∙ same ∙ sym also.form in
-    ap₂ (λ (x : Cell) (xs : List Cell). x ∷ xs)
-    (same_cell c d (words_at_differ ws c.column d.column r are.below.0 also.below.0 (ap first_word e)) (ap first_coefficient e))
-    (cells_are_one ws (combination_at ws cells) (combination_at ws others) cells others r
-    (record { row = record { rising = are.row.rising.1; nonzero = are.row.nonzero.1 }; below = are.below.1; form = refl })
-    (record { row = record { rising = also.row.rising.1; nonzero = also.row.nonzero.1 }; below = also.below.1; form = refl })
-    (ap rest e))
-  where
-    first_word : Combination → List ℕ
-    first_word [] = []
-    first_word (t ∷ ts) = t.word
-
-    first_coefficient : Combination → ℕ
-    first_coefficient [] = 0
-    first_coefficient (t ∷ ts) = t.coefficient
-
-    rest : Combination → Combination
-    rest [] = []
-    rest (t ∷ ts) = ts

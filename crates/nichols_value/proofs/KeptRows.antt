@@ -1,7 +1,7 @@
 -- Rows that are read as combinations.
 use Rattle.std.proofs.Common.{arith, refl, sym, subst, ◌∙◌, ◌≡◌, ◌<◌, ℕ, zero, suc, List, [], ◌∷◌, length, map, slice_index_or}
 use Rattle.std.proofs.lemmas.List.{get_or-map, length-map}
-use Rattle.std.specs.List.{AllByRecursion}
+use Rattle.std.proofs.lemmas.List.Elements.{All-from_recursion}
 use Rattle.nichols_echelon.specs.Cells.{AllBelow, IsRow}
 use Rattle.nichols_echelon.specs.Rows.{RowsValue}
 use Rattle.nichols_rows.specs.CombinationAt.{combination_at}
@@ -11,20 +11,14 @@ use Rattle.nichols_value.specs.Kept.{AreCellsOf, AreFormRows, AreFormRowsOfEach,
 abbrev pub no_rows : RowsValue
 no_rows = record { rows = []; begun = [] }
 
--- what holds of each entry holds of that at a place
-pub all_at_place : {X : Type 0} (P : X → Type 0) (xs : List X) (k : ℕ) (d : X) → AllByRecursion P xs → k < length xs → P (slice_index_or xs k d)
-all_at_place P [] k d all inside = absurd (omega arith)
-all_at_place P (x ∷ xs) zero d all inside = all.0
-all_at_place P (x ∷ xs) (suc k) d all inside = all_at_place P xs k d all.1 (omega arith)
-
 -- the row that gives the k-th form
 pub row_of_form : (ws : List (List ℕ)) (r : RowsValue) (k : ℕ) → AreFormRows (length ws) r → k < length (forms_over ws r)
     → AreCellsOf ws (slice_index_or (forms_over ws r) k []) (slice_index_or r.rows k [])
 row_of_form ws r k shape inside =
     let place : k < length r.rows = subst (λ (n : ℕ). k < n) (length-map r.rows (combination_at ws)) inside in
     record {
-      row = all_at_place IsRow r.rows k [] shape.shape place;
-      below = all_at_place (AllBelow (length ws)) r.rows k [] shape.below place;
+      row = All-from_recursion IsRow r.rows shape.shape k [] place;
+      below = All-from_recursion (AllBelow (length ws)) r.rows shape.below k [] place;
       form = sym (get_or-map (combination_at ws) r.rows k [] [] place);
     }
 

@@ -6,6 +6,6 @@ pub mod LeftBlocks
 pub mod LookedUp
 pub mod Wholes
 pub mod ValueLaws
-pub mod Readings
+pub mod RuleEntries
 pub mod Searching
 pub mod WorkedBlocks

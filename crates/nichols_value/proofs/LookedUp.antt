@@ -21,7 +21,7 @@ use Rattle.nichols_value.specs.Block.{block_basis, block_relations, lower_basis}
 use Rattle.nichols_value.specs.Looked.{IsFormAt, IsFormBelow, with_form}
 use Rattle.nichols_value.specs.Rule.{IsRuleOf, PlainRule, below_in}
 use Rattle.nichols_value.proofs.Blocks.{from_block_candidates, from_block_relations, in_block_basis, in_block_candidates, in_block_relations, no_lower_basis, relation_of}
-use Rattle.nichols_value.proofs.Readings.{basis_is, below_count, below_is, right_form, table_is}
+use Rattle.nichols_value.proofs.RuleEntries.{basis_is, below_count, below_is, right_form, table_is}
 
 -- a letter of the rule is one of the braid
 letter_of : (braid : BraidValue) (m : ℕ) (g : List ℕ) (r : PlainRule) → IsRuleOf braid m g r → (b : ℕ) → 1 ≤ b → b ≤ length r.below → IsLetter braid b

@@ -8,7 +8,7 @@ use Rattle.nichols_braid.specs.Least.{candidates, normal_form}
 use Rattle.nichols_braid.specs.Product.{product_of}
 use Rattle.nichols_braid.proofs.NextProducts.{products_size}
 use Rattle.nichols_value.specs.Block.{block_relations}
-use Rattle.nichols_value.specs.Laws.{BlocksOverOthersAreVoid, BlocksSplitTheBasis, BlocksWithinTheLimitAreWhole, CandidatesAreOfLowerBlocks, DerivativesAreOfLowerBlocks, FormsStayInTheirBlock, LeftLowerBlocksAreByFirstLetters, LeftLowerBlocksAreLowerBlocks, LowerBlocksAreByLastLetters, LowerBlocksAreOfLeadingLetters, LowerLetters, RelationsOfABlock, RowsAreOfLowerBlocks, WholeBlocksHaveRules, WideBlocksAreOver}
+use Rattle.nichols_value.specs.Laws.{BlocksOverOthersAreVoid, BlocksSplitTheBasis, BlocksWithinTheLimitAreWhole, CandidatesAreOfLowerBlocks, DerivativesAreOfLowerBlocks, FormsStayInTheirBlock, LeftLowerBlocksAreByFirstLetters, LeftLowerBlocksAreLowerBlocks, LowerBlocksAreByLastLetters, LowerBlocksAreOfLeadingLetters, LowerLettersAreLeading, RelationsOfABlock, RowsAreOfLowerBlocks, WholeBlocksHaveRules, WideBlocksAreOver}
 use Rattle.nichols_value.specs.declared.value.BlockValue.TheVariants.{Over}
 use Rattle.nichols_value.proofs.Blocks.{block_rows, derived_in_block, from_block_basis, from_block_candidates, from_block_relations, from_lower_basis, from_lower_letters, in_block_basis, in_block_candidates, in_block_relations, in_lower_basis, in_lower_letters, lower_basis_leading, normal_in_block}
 use Rattle.nichols_value.proofs.LeftBlocks.{from_left_lower_basis, in_left_lower_basis, left_lower_is_lower}
@@ -32,7 +32,7 @@ left_lower_blocks_are_lower_blocks = left_lower_is_lower
 pub lower_blocks_are_of_leading_letters : LowerBlocksAreOfLeadingLetters
 lower_blocks_are_of_leading_letters = lower_basis_leading
 
-pub lower_letters_are_leading : LowerLetters
+pub lower_letters_are_leading : LowerLettersAreLeading
 lower_letters_are_leading braid m g a = (λ i. from_lower_letters braid m g a i, λ h. in_lower_letters braid m g a h.0 h.1 h.2)
 
 pub candidates_are_of_lower_blocks : CandidatesAreOfLowerBlocks

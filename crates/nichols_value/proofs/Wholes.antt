@@ -3,7 +3,7 @@ use Rattle.std.proofs.Common.{◌≡◌, ℕ, zero, suc, ◌<◌, ◌≤◌, ◌
 use Rattle.std.specs.Prelude.{nat_le}
 use Rattle.std.specs.List.{Contains, list_all}
 use Rattle.std.proofs.Math.Bool.{and-true}
-use Rattle.std.proofs.lemmas.Bool.{le-leb, leb-true, lt-leb, leb-false}
+use Rattle.std.proofs.lemmas.Bool.{le-leb, leb-true, lt-leb, leb-false, and_parts}
 use Rattle.nichols_tensor.proofs.Entries.{each_of, of_each}
 use Rattle.nichols_braid.specs.Braid.{BraidValue}
 use Rattle.nichols_braid.specs.Kernel.{is_killed}
@@ -30,18 +30,14 @@ unfolding is_whole is_whole_below lower_letters
 whole_is braid limit zero g = sym (and-true (nat_le (rows is_killed braid zero g) limit))
 whole_is braid limit (suc m) g = ap (λ b. nat_le (rows is_killed braid (suc m) g) limit && b) (sym (below_of braid limit m g))
 
-both : (b c : Bool) → (b && c) ≡ true → (b ≡ true) × (c ≡ true)
-both true c h = (refl, h)
-both false c h = absurd (let e : false ≡ true = h in cc)
-
 pub whole_from : (braid : BraidValue) (limit m : ℕ) (g : List ℕ) → rows is_killed braid m g ≤ limit → is_whole_below braid limit m g ≡ true → is_whole braid limit m g ≡ true
 whole_from braid limit m g few below = whole_is braid limit m g ∙ ap₂ (λ b c. b && c) (le-leb (rows is_killed braid m g) limit few) below
 
 pub rows_of_whole : (braid : BraidValue) (limit m : ℕ) (g : List ℕ) → is_whole braid limit m g ≡ true → rows is_killed braid m g ≤ limit
-rows_of_whole braid limit m g whole = leb-true (rows is_killed braid m g) limit (both (nat_le (rows is_killed braid m g) limit) (is_whole_below braid limit m g) (sym (whole_is braid limit m g) ∙ whole)).0
+rows_of_whole braid limit m g whole = leb-true (rows is_killed braid m g) limit (and_parts (nat_le (rows is_killed braid m g) limit) (is_whole_below braid limit m g) (sym (whole_is braid limit m g) ∙ whole)).0
 
 pub below_whole : (braid : BraidValue) (limit m : ℕ) (g : List ℕ) → is_whole braid limit m g ≡ true → is_whole_below braid limit m g ≡ true
-below_whole braid limit m g whole = (both (nat_le (rows is_killed braid m g) limit) (is_whole_below braid limit m g) (sym (whole_is braid limit m g) ∙ whole)).1
+below_whole braid limit m g whole = (and_parts (nat_le (rows is_killed braid m g) limit) (is_whole_below braid limit m g) (sym (whole_is braid limit m g) ∙ whole)).1
 
 -- a block with more candidates isn't whole
 pub too_many_rows : (braid : BraidValue) (limit m : ℕ) (g : List ℕ) → limit < rows is_killed braid m g → is_whole braid limit m g ≡ false

@@ -40,8 +40,8 @@ abbrev pub LowerBlocksAreOfLeadingLetters : Type 0
 LowerBlocksAreOfLeadingLetters = (braid : BraidValue) (m : ℕ) (g : List ℕ) (a : ℕ) → IsLetter braid a → lower_basis braid m g (leading braid a) ≡ lower_basis braid m g a
 
 -- the lower letters are the leading letters before which the block's product is one of the degree below
-abbrev pub LowerLetters : Type 0
-LowerLetters =
+abbrev pub LowerLettersAreLeading : Type 0
+LowerLettersAreLeading =
     (braid : BraidValue) (m : ℕ) (g : List ℕ) (a : ℕ) →
     Contains (lower_letters braid (suc m) g) a ↔ (IsLetter braid a × (leading braid a ≡ a) × Contains (products braid m) (product_before braid a g))
 

@@ -1,4 +1,4 @@
--- what contracts of this crate and of those above cite: the definitions
+-- what public contracts cite: all of it
 pub mod Block
 pub mod Rule
 pub mod Value

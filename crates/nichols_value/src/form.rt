@@ -6,6 +6,7 @@ ghost use Rattle.nichols_rows.specs.CombinationAt.{combination_at};
 ghost use Rattle.nichols_value.specs.Kept.{AreCellsOver};
 
 use nichols_echelon::Cell;
+use nichols_rows::combination_of;
 use nichols_words::{Comb, Term, Word};
 use std::alloc::{AllocError, Global};
 use std::marker::Model;
@@ -40,20 +41,6 @@ fn term_at(words: &[Word], cells: &[Cell], k: usize) -> Term
         word: words[cell.column as usize],
         coefficient: cell.coefficient,
     }
-}
-
-/// The combination that cells are, in memory of its own.
-fn combination_of(alloc: Global, words: &[Word], cells: &[Cell]) -> Result<Comb, AllocError>
-    requires { AreCellsOver words.now cells.now }
-    ensures { IfOk result (λ c. c ≡ combination_at words.now cells.now) }
-{
-    let mut terms = Vec::new(alloc);
-    for cell in cells {
-        let word = words[cell.column as usize];
-        let coefficient = cell.coefficient;
-        terms.push(Term { word, coefficient })?;
-    }
-    Ok(Comb::from_terms(terms))
 }
 
 impl<'t> Form<'t> {

@@ -1,6 +1,6 @@
 //! Laws of blocks, for every braid. A word is of the block of its length and its product; all is read in the skew derivations.
 
-ghost use Rattle.nichols_value.specs.Laws.{BlocksOverOthersAreVoid, BlocksSplitTheBasis, BlocksWithinTheLimitAreWhole, CandidatesAreOfLowerBlocks, DerivativesAreOfLowerBlocks, FormsStayInTheirBlock, LeftLowerBlocksAreByFirstLetters, LeftLowerBlocksAreLowerBlocks, LowerBlocksAreByLastLetters, LowerBlocksAreOfLeadingLetters, LowerLetters, RelationsOfABlock, RowsAreOfLowerBlocks, WholeBlocksHaveRules, WideBlocksAreOver};
+ghost use Rattle.nichols_value.specs.Laws.{BlocksOverOthersAreVoid, BlocksSplitTheBasis, BlocksWithinTheLimitAreWhole, CandidatesAreOfLowerBlocks, DerivativesAreOfLowerBlocks, FormsStayInTheirBlock, LeftLowerBlocksAreByFirstLetters, LeftLowerBlocksAreLowerBlocks, LowerBlocksAreByLastLetters, LowerBlocksAreOfLeadingLetters, LowerLettersAreLeading, RelationsOfABlock, RowsAreOfLowerBlocks, WholeBlocksHaveRules, WideBlocksAreOver};
 
 /// A least word is in the block of its product, and in no other.
 pub fn blocks_split_the_basis()
@@ -31,7 +31,7 @@ pub fn lower_blocks_are_of_leading_letters()
 
 /// The lower letters of a block are the leading letters before which its product is one of the degree below.
 pub fn lower_letters_are_leading()
-    ensures { LowerLetters }
+    ensures { LowerLettersAreLeading }
 {}
 
 /// The candidates of a block are the words of its lower blocks by a letter, with that letter behind.

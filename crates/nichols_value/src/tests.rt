@@ -6,7 +6,7 @@ ghost use Rattle.nichols_value.specs.Rule.{derivs_in, left_in};
 use super::*;
 use nichols_braid::Product;
 use nichols_echelon::{Cell, Rows};
-use nichols_tensor::LETTER_LIMIT;
+use nichols_testing::{has_words, word};
 use nichols_words::{Term, Word};
 use std::alloc::{AllocError, Global};
 use std::test::Fail;
@@ -120,28 +120,6 @@ fn rule(alloc: Global) -> Result<BlockRule, AllocError>
     let derivs = derivative_rows(alloc)?;
     let left = right_rows(alloc)?;
     Ok(BlockRule::new(key, basis, below, right, spots, derivs, left))
-}
-
-/// The word that a text spells, as "3.1.2", or "" for the empty word. What is no letter, or has no room, is left out.
-fn word(text: &str) -> Word {
-    let mut word = Word::empty();
-    for letter in text.split('.') {
-        if let Ok(letter) = letter.parse() {
-            if 1 <= letter && letter <= LETTER_LIMIT {
-                let _put = word.push(letter);
-            }
-        }
-    }
-    word
-}
-
-/// Whether these are the words that the texts spell, in this order.
-fn has_words(words: &[Word], expected: &[&str]) -> bool {
-    words.len() == expected.len()
-        && words
-            .iter()
-            .zip(expected)
-            .all(|(found, text)| *found == word(text))
 }
 
 /// Whether a form has these terms, in this order.

@@ -1,36 +1,33 @@
 -- One pass over terms that are sorted by word.
-use Rattle.std.proofs.Common.{◌≡◌, ℕ, suc, ◌+◌, Bool, true, false, not, cond, nat_eq, List, [], ◌∷◌, ◌++◌, get_or, refl, sym, ◌∙◌, ap, subst, arith, append_assoc}
+use Rattle.std.proofs.Common.{◌≡◌, Bool, true, false, not, cond, nat_eq, [], ◌∷◌, ◌++◌, refl, sym, ◌∙◌, ap, subst, append_assoc}
 use Rattle.std.proofs.lemmas.List.Elements.{filter-append}
 use Rattle.std.specs.List.Sorted.{IsSortedByKey}
-use Rattle.std.specs.Ordering.{is_lt, is_eq, eq_by_cmp}
+use Rattle.std.specs.Ordering.{is_eq}
 use Rattle.std.specs.declared.cmp.Ordering.{Ordering}
 use Rattle.std.specs.declared.cmp.Ordering.TheVariants.{Less, Equal, Greater}
 use Rattle.nichols_field.specs.Field.{FieldValue, IsField, IsElement, plus}
 use Rattle.nichols_field.proofs.FieldLaws.{plus_assoc, plus_is_element}
 use Rattle.nichols_field.proofs.FieldAlgebra.{plus_chosen}
-use Rattle.nichols_tensor.specs.Combination.{Term, Combination, HasSameValues, value_at, same_letters, words_of, AllElements, without_zeros}
-use Rattle.nichols_tensor.specs.WordOrder.{word_cmp, IsBelowFirst, IsRising, IsOrdered}
+use Rattle.nichols_tensor.specs.Combination.{Term, Combination, HasSameValues, value_at, same_letters, AllElements, without_zeros}
+use Rattle.nichols_tensor.specs.WordOrder.{word_cmp, IsOrdered}
 use Rattle.nichols_tensor.proofs.Values.{term_value}
-use Rattle.nichols_tensor.proofs.Order.{same_word, less_back}
+use Rattle.nichols_tensor.proofs.Order.{same_word}
 use Rattle.nichols_tensor.proofs.Building.{value_at-without_zeros, all-without_zeros, ordered-without_zeros}
-
--- whether two words are one, by their order
-abbrev pub are_one : List ℕ → List ℕ → Bool
-are_one = eq_by_cmp word_cmp
+use Rattle.nichols_tensor.specs.Gathered.{are_one, gathered_by}
+use Rattle.nichols_tensor.proofs.Gathered.{gathered_rise}
 
 -- the sum of the coefficients of two terms of one word
 abbrev pub added : FieldValue → Term → Term → Term
 added k last t = record { word = last.word; coefficient = plus k last.coefficient t.coefficient }
 
 -- a term and those after it, with neighbours of one word made one term
-unfoldable pub gathered : FieldValue → Term → Combination → Combination
-gathered k last [] = last ∷ []
-gathered k last (t ∷ f) = cond (are_one t.word last.word) (gathered k (added k last t) f) (last ∷ gathered k t f)
+abbrev pub gathered : FieldValue → Term → Combination → Combination
+gathered k = gathered_by (λ t. t.word) (added k)
 
 -- ---- what is gathered
 
 value-gathered : (k : FieldValue) → IsField k → (last : Term) (f : Combination) → HasSameValues k (gathered k last f) (last ∷ f)
-unfolding gathered
+unfolding gathered_by
 value-gathered k is last [] w = refl
 value-gathered k is last (t ∷ f) w = at (word_cmp t.word last.word) refl (value-gathered k is (added k last t) f w) (value-gathered k is t f w)
   where
@@ -44,7 +41,7 @@ value-gathered k is last (t ∷ f) w = at (word_cmp t.word last.word) refl (valu
         ∙ ap (λ v. plus k (term_value last w) (plus k (cond (same_letters v w) t.coefficient 0) (value_at k f w))) (sym (same_word t.word last.word e))
 
 elements-gathered : (k : FieldValue) → IsField k → (last : Term) (f : Combination) → IsElement k last.coefficient → AllElements k f → AllElements k (gathered k last f)
-unfolding gathered
+unfolding gathered_by
 elements-gathered k is last [] e h = (e, tt)
 elements-gathered k is last (t ∷ f) e h =
     at (are_one t.word last.word) (elements-gathered k is (added k last t) f (plus_is_element k last.coefficient t.coefficient is) h.1) (elements-gathered k is t f h.0 h.1)
@@ -52,42 +49,6 @@ elements-gathered k is last (t ∷ f) e h =
     at : (b : Bool) → AllElements k (gathered k (added k last t) f) → AllElements k (gathered k t f) → AllElements k (cond b (gathered k (added k last t) f) (last ∷ gathered k t f))
     at true same other = same
     at false same other = (e, other)
-
-below-gathered : (k : FieldValue) (v : List ℕ) (last : Term) (f : Combination) → word_cmp v last.word ≡ Less → IsBelowFirst v (words_of (gathered k last f))
-unfolding gathered
-below-gathered k v last [] h = h
-below-gathered k v last (t ∷ f) h = at (are_one t.word last.word) (below-gathered k v (added k last t) f h)
-  where
-    at : (b : Bool) → IsBelowFirst v (words_of (gathered k (added k last t) f)) → IsBelowFirst v (words_of (cond b (gathered k (added k last t) f) (last ∷ gathered k t f)))
-    at true same = same
-    at false same = h
-
--- no word of the list stands before the one in front of it, nor the first before w
-abbrev NeverFalls : List ℕ → Combination → Type 0
-NeverFalls w [] = Unit {0}
-NeverFalls w (t ∷ f) = (is_lt (word_cmp t.word w) ≡ false) × NeverFalls t.word f
-
-rising-gathered : (k : FieldValue) (last : Term) (f : Combination) → NeverFalls last.word f → IsRising (words_of (gathered k last f))
-unfolding gathered
-rising-gathered k last [] s = (tt, tt)
-rising-gathered k last (t ∷ f) s =
-    at (word_cmp t.word last.word) refl s.0 (λ e. rising-gathered k (added k last t) f (subst (λ v. NeverFalls v f) e s.1)) (rising-gathered k t f s.1) (below-gathered k last.word t f)
-  where
-    at : (o : Ordering) → word_cmp t.word last.word ≡ o → is_lt o ≡ false → (t.word ≡ last.word → IsRising (words_of (gathered k (added k last t) f))) → IsRising (words_of (gathered k t f)) →
-        (word_cmp last.word t.word ≡ Less → IsBelowFirst last.word (words_of (gathered k t f))) → IsRising (words_of (cond (is_eq o) (gathered k (added k last t) f) (last ∷ gathered k t f)))
-    at Less e h same other below = cc
-    at Equal e h same other below = same (same_word t.word last.word e)
-    at Greater e h same other below = (below (less_back t.word last.word e), other)
-
-never_falls : (t : Term) (f : Combination) → IsSortedByKey (λ (u : Term). u.word) word_cmp (t ∷ f) → NeverFalls t.word f
-never_falls t [] s = tt
-never_falls t (u ∷ f) s = (s 0 t (omega arith) (omega arith), never_falls u f (λ i d low less. later i d (s (suc i) d (omega arith) (omega arith))))
-  where
-    later : (i : ℕ) (d : Term) → is_lt (word_cmp (get_or (t ∷ u ∷ f) (suc i + 1) d).word (get_or (t ∷ u ∷ f) (suc i) d).word) ≡ false → is_lt (word_cmp (get_or (u ∷ f) (i + 1) d).word (get_or (u ∷ f) i d).word) ≡ false
-    later i d h = subst (λ n. is_lt (word_cmp (get_or (t ∷ u ∷ f) n d).word (get_or (u ∷ f) i d).word) ≡ false) more h
-      where
-        more : suc i + 1 ≡ suc (i + 1)
-        more = omega arith
 
 -- ---- the pass
 
@@ -102,7 +63,7 @@ gathering_start k whole t f e elements = let each : AllElements k (t ∷ f) = su
 
 -- the next term has the same word
 pub gathering-same : (k : FieldValue) → IsField k → (out : Combination) (last t now : Term) (f rest all : Combination) → f ≡ t ∷ rest → are_one t.word last.word ≡ true → now ≡ added k last t → Gathering k out last f all → Gathering k out now rest all
-unfolding gathered
+unfolding gathered_by
 gathering-same k is out last t now f rest all e one n g = record {
   reaches = ap (λ u. out ++ without_zeros (gathered k u rest)) n ∙ ap (λ b. out ++ without_zeros (cond b (gathered k (added k last t) rest) (last ∷ gathered k t rest))) (sym one)
       ∙ ap (λ r. out ++ without_zeros (gathered k last r)) (sym e) ∙ g.reaches;
@@ -112,7 +73,7 @@ gathering-same k is out last t now f rest all e one n g = record {
 
 -- the next term has another word
 pub gathering-other : (k : FieldValue) (out : Combination) (last t : Term) (put f rest all : Combination) → f ≡ t ∷ rest → are_one t.word last.word ≡ false → put ≡ out ++ without_zeros (last ∷ []) → Gathering k out last f all → Gathering k put t rest all
-unfolding gathered
+unfolding gathered_by
 gathering-other k out last t put f rest all e other p g = record {
   reaches = ap (λ o. o ++ without_zeros (gathered k t rest)) p ∙ append_assoc out (without_zeros (last ∷ [])) (without_zeros (gathered k t rest))
       ∙ ap (λ r. out ++ r) (sym (filter-append (λ u. not (nat_eq u.coefficient 0)) (last ∷ []) (gathered k t rest)))
@@ -123,7 +84,7 @@ gathering-other k out last t put f rest all e other p g = record {
 }
 
 pub gathering-end : (k : FieldValue) (out : Combination) (last : Term) (put f all : Combination) → f ≡ [] → put ≡ out ++ without_zeros (last ∷ []) → Gathering k out last f all → put ≡ all
-unfolding gathered
+unfolding gathered_by
 gathering-end k out last put f all e p g = p ∙ ap (λ r. out ++ without_zeros (gathered k last r)) (sym e) ∙ g.reaches
 
 -- ---- what the pass answers
@@ -132,7 +93,7 @@ pub gathered_value : (k : FieldValue) → IsField k → (r : Combination) (t : T
 gathered_value k is r t f all e h w = ap (λ g. value_at k g w) h ∙ value_at-without_zeros k is (gathered k t f) w ∙ value-gathered k is t f w ∙ ap (λ g. value_at k g w) (sym e)
 
 pub gathered_shape : (k : FieldValue) (r : Combination) (t : Term) (f all : Combination) → all ≡ t ∷ f → IsSortedByKey (λ (u : Term). u.word) word_cmp all → r ≡ without_zeros (gathered k t f) → IsOrdered r
-gathered_shape k r t f all e s h = subst IsOrdered (sym h) (ordered-without_zeros (gathered k t f) (rising-gathered k t f (never_falls t f (subst (IsSortedByKey (λ (u : Term). u.word) word_cmp) e s))))
+gathered_shape k r t f all e s h = subst IsOrdered (sym h) (ordered-without_zeros (gathered k t f) (gathered_rise (λ u. u.word) (added k) (λ last u. refl) t f (subst (IsSortedByKey (λ (u : Term). u.word) word_cmp) e s)))
 
 pub gathered_elements : (k : FieldValue) → IsField k → (r : Combination) (t : Term) (f all : Combination) → all ≡ t ∷ f → AllElements k all → r ≡ without_zeros (gathered k t f) → AllElements k r
 gathered_elements k is r t f all e elements h =

@@ -3,7 +3,7 @@
 ghost use Rattle.std.specs.Prelude.{◌≡◌, ◌≢◌, ◌++◌, ◌∷◌, ◌↔◌, IfOk, IsTrue, List, ℕ, [], length, if◌then◌else◌};
 ghost use Rattle.std.specs.Result.{OnErr, OnOk};
 ghost use Rattle.nichols_field.specs.Field.{FieldValue, IsElement, IsField, plus, times};
-ghost use Rattle.nichols_tensor.specs.Combination.{AllAmong, AllElements, same_letters, scaled, value_at, without_zeros, words_of};
+ghost use Rattle.nichols_tensor.specs.Combination.{AllAmong, AllElements, same_letters, scalar_multiple, value_at, without_zeros, words_of};
 ghost use Rattle.nichols_tensor.specs.WordOrder.{IsOrdered, IsRising};
 ghost use Rattle.nichols_tensor.specs.Words.{HasDegree, IsOver, IsWordOver};
 ghost use Rattle.nichols_words.specs.Comb.{coefficient_at};
@@ -145,8 +145,8 @@ impl Comb {
     pub fn scale(&self, alloc: Global, field: Field, by: u32) -> Result<Comb, AllocError>
         requires factor { IsElement field by }
         requires coefficients { AllElements field self.now }
-        ensures terms { IfOk result (λ r. r ≡ without_zeros (scaled field by self.now)) }
-        ensures each_stays { IfOk result (λ r. by ≢ 0 → r ≡ scaled field by self.now) }
+        ensures terms { IfOk result (λ r. r ≡ without_zeros (scalar_multiple field by self.now)) }
+        ensures each_stays { IfOk result (λ r. by ≢ 0 → r ≡ scalar_multiple field by self.now) }
         ensures value { IfOk result (λ r. (w : List ℕ) → value_at field r w ≡ times field by (value_at field self.now w)) }
         ensures shape { IfOk result IsOrdered }
         ensures elements { IfOk result (AllElements field) }

@@ -2,7 +2,7 @@
 
 ghost use Rattle.std.specs.Prelude.{◌≡◌, IfOk};
 ghost use Rattle.nichols_field.specs.Field.{IsElement, times};
-ghost use Rattle.nichols_tensor.specs.Combination.{AllElements, scaled, without_zeros};
+ghost use Rattle.nichols_tensor.specs.Combination.{AllElements, scalar_multiple, without_zeros};
 
 use crate::Term;
 use nichols_field::Field;
@@ -29,7 +29,7 @@ pub(crate) fn multiples(
 ) -> Result<Vec<Term>, AllocError>
     requires factor { IsElement field by }
     requires coefficients { AllElements field terms.now }
-    ensures { IfOk result (λ r. r.items ≡ without_zeros (scaled field by terms.now)) }
+    ensures { IfOk result (λ r. r.items ≡ without_zeros (scalar_multiple field by terms.now)) }
 {
     let mut out = Vec::new(alloc);
     for term in terms {

@@ -2,6 +2,7 @@
 
 ghost use Rattle.std.specs.Prelude.{◌≡◌, ◌==◌, ◌&&◌, ◌||◌, ◌-◌, ℕ, ◌<◌, ◌≤◌, true, false, length, IsTrue, IfOk};
 ghost use Rattle.std.specs.Int.{bit_at};
+ghost use Rattle.nichols_tensor.specs.declared.TheConstants.{LETTER_LIMIT};
 ghost use Rattle.nichols_core.specs.Layout.{edge_at};
 ghost use Rattle.nichols_shelf.specs.Calls.{asked_of};
 ghost use Rattle.nichols_shelf.specs.Places.{blocks, edges};
@@ -85,7 +86,7 @@ impl Player {
         let layout = shelf.layout();
         layout.meets_its_rules();
         let number = layout.edge_into(block, letter)?;
-        if !self.held[block as usize] || !none_picked(layout, &self.picked, block) {
+        if !self.held[block as usize] || !entries_are(layout, &self.picked, block, false) {
             return None;
         }
         let lower = layout.edge(number).lower;
@@ -132,7 +133,7 @@ impl Player {
         };
         if !self.held[block as usize]
             || self.laid[number]
-            || !all_picked(layout, &self.picked, block)
+            || !entries_are(layout, &self.picked, block, true)
         {
             return false;
         }
@@ -150,7 +151,7 @@ impl Player {
         let layout = shelf.layout();
         layout.meets_its_rules();
         if !self.held[block as usize]
-            || !all_picked(layout, &self.picked, block)
+            || !entries_are(layout, &self.picked, block, true)
             || !all_laid(layout, &self.laid, block)
         {
             return None;
@@ -183,26 +184,13 @@ fn is_published(asked: Asked) -> bool
     }
 }
 
-/// Whether no edge into the block is marked.
-fn none_picked(layout: &Layout, picked: &[bool], block: u32) -> bool
+/// Whether all edges into the block are marked, or none is.
+fn entries_are(layout: &Layout, picked: &[bool], block: u32, marked: bool) -> bool
     requires { length picked.now ≡ length layout.now.edges }
-    ensures { IsTrue result → (k : ℕ) → k < length layout.now.edges → (edge_at layout.now.edges k).upper ≡ block → mark picked.now k ≡ false }
+    ensures { IsTrue result → (k : ℕ) → k < length layout.now.edges → (edge_at layout.now.edges k).upper ≡ block → mark picked.now k ≡ marked }
 {
     for i in 0..layout.edges.len() {
-        if layout.edge(i).upper == block && picked[i] {
-            return false;
-        }
-    }
-    true
-}
-
-/// Whether all edges into the block are marked.
-fn all_picked(layout: &Layout, picked: &[bool], block: u32) -> bool
-    requires { length picked.now ≡ length layout.now.edges }
-    ensures { IsTrue result → (k : ℕ) → k < length layout.now.edges → (edge_at layout.now.edges k).upper ≡ block → mark picked.now k ≡ true }
-{
-    for i in 0..layout.edges.len() {
-        if layout.edge(i).upper == block && !picked[i] {
+        if layout.edge(i).upper == block && picked[i] != marked {
             return false;
         }
     }
@@ -239,7 +227,7 @@ fn all_laid(layout: &Layout, laid: &[bool], block: u32) -> bool
 fn mark_askers(layout: &Layout, resumed: &mut Vec<bool>, block: u32, bits: u32)
     requires { length resumed.old.items ≡ length layout.now.degrees }
     ensures length { length resumed.new.items ≡ length layout.now.degrees }
-    ensures marks { (word : ℕ) → ((i : ℕ) → i < 24 → bit_at bits i ≡ bit_at word i) → (b : ℕ) → mark resumed.new.items b ≡ (mark resumed.old.items b || is_in b (askers layout.now.edges block word)) }
+    ensures marks { (word : ℕ) → ((i : ℕ) → i < LETTER_LIMIT → bit_at bits i ≡ bit_at word i) → (b : ℕ) → mark resumed.new.items b ≡ (mark resumed.old.items b || is_in b (askers layout.now.edges block word)) }
 {
     for i in 0..layout.edges.len() {
         let edge = layout.edge(i);
@@ -252,7 +240,7 @@ fn mark_askers(layout: &Layout, resumed: &mut Vec<bool>, block: u32, bits: u32)
 /// Whether the edge goes out of the block and the bits have that of its letter.
 fn asks(bits: u32, edge: Edge, block: u32) -> bool
     requires from { 1 ≤ edge.letter }
-    requires to { edge.letter ≤ 24 }
+    requires to { edge.letter ≤ LETTER_LIMIT }
     ensures { result ≡ ((edge.lower == block) && (bit_at bits (edge.letter - 1) == 1)) }
 {
     edge.lower == block && (bits >> (edge.letter - 1)) % 2 == 1

@@ -47,7 +47,7 @@ pub(crate) fn value_of_first(alloc: Global, levels: &Levels, first: &Products, l
 pub(crate) fn shelf_of_two(
     alloc: Global,
     layout: Layout,
-    braid: &Braid,
+    base: &Levels,
     first: &Products,
     second: &Products,
     limit: u32,
@@ -57,7 +57,7 @@ pub(crate) fn shelf_of_two(
     requires second { 0 < length second.now }
     ensures pass { IfOk result (λ r. IsOf r.0 r.1 × (view_of r.1 ≡ first_view (plan_of r.0))) }
     ensures layout { IfOk result (λ r. (plan_of r.0).layout ≡ layout) }
-    ensures key { IfOk result (λ r. ((plan_of r.0).braid ≡ braid.now) × ((plan_of r.0).rows_limit ≡ limit) × (key_at (plan_of r.0) 0 ≡ record { degree = 1; product = word_at first.now 0 })) }
+    ensures key { IfOk result (λ r. ((plan_of r.0).braid ≡ base.now.braid) × ((plan_of r.0).rows_limit ≡ limit) × (key_at (plan_of r.0) 0 ≡ record { degree = 1; product = word_at first.now 0 })) }
 {
     let mut keys = Vec::new(alloc);
     keys.push(BlockKey {
@@ -68,7 +68,7 @@ pub(crate) fn shelf_of_two(
         degree: 2,
         product: *second.at(0),
     })?;
-    Shelf::start(alloc, layout, keys, limit, braid)
+    Shelf::start(alloc, layout, keys, limit, base)
 }
 
 /// The products of degree 1.

@@ -7,6 +7,7 @@ ghost use Rattle.nichols_shelf.specs.Passes.{IsOf, plan_of, view_of};
 ghost use Rattle.nichols_shelf.specs.Views.{first_view};
 
 use crate::{Pass, Shelf};
+use nichols_block::Levels;
 use nichols_braid::{Braid, Product};
 use nichols_core::{Edge, Event, Layout, Stage, State};
 use nichols_value::BlockKey;
@@ -16,7 +17,7 @@ use std::alloc::{AllocError, Global};
 pub(crate) fn shelf_over(alloc: Global, layout: Layout) -> Result<(Shelf, Pass), AllocError>
     ensures { IfOk result (λ r. IsOf r.0 r.1 × (view_of r.1 ≡ first_view (plan_of r.0)) × ((plan_of r.0).layout ≡ layout)) }
 {
-    let braid = Braid::points(alloc, 3)?;
+    let base = Levels::start(alloc, Braid::points(alloc, 3)?)?;
     let mut keys = Vec::new(alloc);
     for degree in layout.degrees.iter() {
         keys.push(BlockKey {
@@ -24,7 +25,7 @@ pub(crate) fn shelf_over(alloc: Global, layout: Layout) -> Result<(Shelf, Pass),
             product: Product::identity(3),
         })?;
     }
-    Shelf::start(alloc, layout, keys, 1024, &braid)
+    Shelf::start(alloc, layout, keys, 1024, &base)
 }
 
 /// Blocks 0 and 1 of degrees 1 and 2, and an edge of letter 1 between them.

@@ -2,10 +2,10 @@
 
 ghost use Rattle.std.specs.Prelude.{◌≡◌, ◌<◌, length};
 ghost use Rattle.nichols_shelf.specs.Passes.{IsOf, plan_of, view_of};
-ghost use Rattle.nichols_shelf.specs.Played.{KeepsNumbers};
+ghost use Rattle.nichols_shelf.specs.Played.{KeepsNumbers, StaysOf};
 
 use crate::Shelf;
-use crate::tests::closed_by_two;
+use crate::tests::closed_by_four;
 use crate::tests::player::Player;
 use crate::tests::setting::{Dice, Pure, random_layout, shelf_over};
 use nichols_core::{Event, Stage};
@@ -14,8 +14,8 @@ use std::process::Abort;
 use std::test::Fail;
 use std::thread::{self, Threads};
 
-/// Two passes, each on a thread of its own, make some thousand steps that the dice choose, over one layout after another. Then one thread
-/// goes on with both. At the end a block is published exactly where it is in the pure machine.
+/// Four passes, each on a thread of its own, make some thousand steps that the dice choose, over one layout after another. Then one
+/// thread goes on with all of them. At the end a block is published exactly where it is in the pure machine.
 #[test]
 fn random_steps_on_threads(rt: HostRuntime) -> Result<(), Fail> {
     for seed in 11..31 {
@@ -24,7 +24,11 @@ fn random_steps_on_threads(rt: HostRuntime) -> Result<(), Fail> {
     Ok(())
 }
 
-fn over_one_layout<R: Abort + Threads>(rt: &R, alloc: Global, seed: u64) -> Result<(), AllocError> {
+fn over_one_layout<R: Abort + Threads + Sync>(
+    rt: &R,
+    alloc: Global,
+    seed: u64,
+) -> Result<(), AllocError> {
     let mut dice = Dice { seed };
     let Some(layout) = random_layout(alloc, &mut dice)? else {
         panic!(rt; "no layout");
@@ -32,12 +36,18 @@ fn over_one_layout<R: Abort + Threads>(rt: &R, alloc: Global, seed: u64) -> Resu
     let mut pure = Pure::over(alloc, &layout)?;
     run_out(&mut pure, &mut dice);
     let (shelf, mut pass) = shelf_over(alloc, layout)?;
-    let other = shelf.split(alloc, &mut pass)?;
+    let first = shelf.split(alloc, &mut pass)?;
+    let second = shelf.split(alloc, &mut pass)?;
+    let third = shelf.split(alloc, &mut pass)?;
     let zero = Player::of(alloc, &shelf, pass)?;
-    let one = Player::of(alloc, &shelf, other)?;
-    let (mut zero, mut one) = on_threads(rt, &shelf, zero, one, seed);
-    play_out(&shelf, &mut zero, &mut one, &mut dice);
-    let closed = closed_by_two(rt, alloc, shelf, zero, one)?;
+    let one = Player::of(alloc, &shelf, first)?;
+    let two = Player::of(alloc, &shelf, second)?;
+    let three = Player::of(alloc, &shelf, third)?;
+    let ((mut zero, mut one), (mut two, mut three)) = on_four_threads(
+        rt, &shelf, zero, one, two, three, seed,
+    );
+    play_out(&shelf, &mut zero, &mut one, &mut two, &mut three, &mut dice);
+    let closed = closed_by_four(rt, alloc, shelf, zero, one, two, three)?;
     for block in 0..9 {
         let published = pure.stage(block) == Stage::Published;
         assert!(rt;
@@ -46,6 +56,39 @@ fn over_one_layout<R: Abort + Threads>(rt: &R, alloc: Global, seed: u64) -> Resu
         );
     }
     Ok(())
+}
+
+/// Four players, each on a thread of its own with dice of its own.
+fn on_four_threads<R: Threads + Sync>(
+    rt: &R,
+    shelf: &Shelf,
+    zero: Player,
+    one: Player,
+    two: Player,
+    three: Player,
+    seed: u64,
+) -> ((Player, Player), (Player, Player))
+    requires zero { IsOf shelf.now zero.pass }
+    requires one { IsOf shelf.now one.pass }
+    requires two { IsOf shelf.now two.pass }
+    requires three { IsOf shelf.now three.pass }
+    requires blocks { length (plan_of shelf.now).layout.degrees ≡ 9 }
+    ensures zero { StaysOf shelf.now zero.pass result.0.0.pass }
+    ensures one { StaysOf shelf.now one.pass result.0.1.pass }
+    ensures two { StaysOf shelf.now two.pass result.1.0.pass }
+    ensures three { StaysOf shelf.now three.pass result.1.1.pass }
+{
+    thread::join(
+        rt,
+        move || -> (Player, Player)
+            requires { IsOf shelf.now zero.pass × IsOf shelf.now one.pass × (length (plan_of shelf.now).layout.degrees ≡ 9) }
+            ensures { StaysOf shelf.entry.now zero.pass result.0.pass × StaysOf shelf.entry.now one.pass result.1.pass }
+        { on_threads(rt, shelf, zero, one, seed) },
+        move || -> (Player, Player)
+            requires { IsOf shelf.now two.pass × IsOf shelf.now three.pass × (length (plan_of shelf.now).layout.degrees ≡ 9) }
+            ensures { StaysOf shelf.entry.now two.pass result.0.pass × StaysOf shelf.entry.now three.pass result.1.pass }
+        { on_threads(rt, shelf, two, three, seed.wrapping_add(1000)) },
+    )
 }
 
 /// Both players, each on a thread of its own with dice of its own.
@@ -59,18 +102,18 @@ fn on_threads<R: Threads>(
     requires zero { IsOf shelf.now zero.pass }
     requires one { IsOf shelf.now one.pass }
     requires blocks { length (plan_of shelf.now).layout.degrees ≡ 9 }
-    ensures zero { IsOf shelf.now result.0.pass × KeepsNumbers (view_of zero.pass) (view_of result.0.pass) }
-    ensures one { IsOf shelf.now result.1.pass × KeepsNumbers (view_of one.pass) (view_of result.1.pass) }
+    ensures zero { StaysOf shelf.now zero.pass result.0.pass }
+    ensures one { StaysOf shelf.now one.pass result.1.pass }
 {
     thread::join(
         rt,
         move || -> Player
             requires { IsOf shelf.now zero.pass × (length (plan_of shelf.now).layout.degrees ≡ 9) }
-            ensures { IsOf shelf.entry.now result.pass × KeepsNumbers (view_of zero.pass) (view_of result.pass) }
+            ensures { StaysOf shelf.entry.now zero.pass result.pass }
         { played(shelf, zero, seed.wrapping_add(100)) },
         move || -> Player
             requires { IsOf shelf.now one.pass × (length (plan_of shelf.now).layout.degrees ≡ 9) }
-            ensures { IsOf shelf.entry.now result.pass × KeepsNumbers (view_of one.pass) (view_of result.pass) }
+            ensures { StaysOf shelf.entry.now one.pass result.pass }
         { played(shelf, one, seed.wrapping_add(200)) },
     )
 }
@@ -96,17 +139,30 @@ fn pause() {
     }
 }
 
-/// Steps of both players by turns, more than enough for all blocks.
-fn play_out(shelf: &Shelf, zero: &mut Player, one: &mut Player, dice: &mut Dice)
+/// Steps of all players by turns, more than enough for all blocks.
+fn play_out(
+    shelf: &Shelf,
+    zero: &mut Player,
+    one: &mut Player,
+    two: &mut Player,
+    three: &mut Player,
+    dice: &mut Dice,
+)
     requires zero { IsOf shelf.now zero.old.pass }
     requires one { IsOf shelf.now one.old.pass }
+    requires two { IsOf shelf.now two.old.pass }
+    requires three { IsOf shelf.now three.old.pass }
     requires blocks { length (plan_of shelf.now).layout.degrees ≡ 9 }
-    ensures zero { IsOf shelf.now zero.new.pass × KeepsNumbers (view_of zero.old.pass) (view_of zero.new.pass) }
-    ensures one { IsOf shelf.now one.new.pass × KeepsNumbers (view_of one.old.pass) (view_of one.new.pass) }
+    ensures zero { StaysOf shelf.now zero.old.pass zero.new.pass }
+    ensures one { StaysOf shelf.now one.old.pass one.new.pass }
+    ensures two { StaysOf shelf.now two.old.pass two.new.pass }
+    ensures three { StaysOf shelf.now three.old.pass three.new.pass }
 {
     for _ in 0..20000 {
         step(shelf, zero, dice);
         step(shelf, one, dice);
+        step(shelf, two, dice);
+        step(shelf, three, dice);
     }
 }
 

@@ -1,13 +1,13 @@
 //! Reports of algebras.
 
-use super::{BRIEF, CLOSED, DEGREES, Run, THREE, THREE_BY_A_CONSTANT, are_written, ran};
+use super::{
+    AFFINE_FIVE, BRIEF, CLOSED, DEGREES, Run, SIX_TRANSPOSITIONS, TETRAHEDRON, TETRAHEDRON_TWO,
+    THREE, THREE_BY_A_CONSTANT, are_written, ran,
+};
 use std::alloc::Global;
 use std::test::Fail;
 
-/// The vertices of the tetrahedron, and the report up to degree 3 that another program wrote.
-const TETRAHEDRON: &str =
-    "modulus = 101\nrack = [[1, 4, 2, 3], [3, 2, 4, 1], [4, 1, 3, 2], [2, 3, 1, 4]]\ncocycle = -1\n";
-
+/// The report of the tetrahedron up to degree 3, which another program wrote.
 const UP_TO_THREE: &str =
     "nichols p 101 letters 4 degree 3 rows 1024\ndegree 0 dimension 1\nbasis e\ndegree 1 dimension 4\nbasis 1 2 3 4\ndegree 2 dimension 8\nbasis 1.2 1.3 1.4 2.1 2.3 2.4 3.1 3.4\nrelation 1.1 = 0\nrelation 2.2 = 0\nrelation 3.2 = 100*1.3 + 100*2.1\nrelation 3.3 = 0\nrelation 4.1 = 100*1.2 + 100*2.4\nrelation 4.2 = 100*2.3 + 100*3.4\nrelation 4.3 = 100*1.4 + 100*3.1\nrelation 4.4 = 0\ndegree 3 dimension 11\nbasis 1.2.1 1.2.3 1.2.4 1.3.1 1.3.4 2.1.3 2.1.4 2.3.1 2.3.4 3.1.2 3.1.4\nrelation 1.2.2 = 0\nrelation 1.3.2 = 100*1.2.1\nrelation 1.3.3 = 0\nrelation 1.4.1 = 100*1.2.4\nrelation 1.4.2 = 100*1.2.3 + 100*1.3.4\nrelation 1.4.3 = 100*1.3.1\nrelation 1.4.4 = 0\nrelation 2.1.1 = 0\nrelation 2.1.2 = 1*1.2.1\nrelation 2.3.2 = 100*2.1.3\nrelation 2.3.3 = 0\nrelation 2.4.1 = 100*1.2.1\nrelation 2.4.2 = 100*2.3.4\nrelation 2.4.3 = 100*2.1.4 + 100*2.3.1\nrelation 2.4.4 = 0\nrelation 3.1.1 = 0\nrelation 3.1.3 = 1*1.3.1\nrelation 3.4.1 = 1*1.3.4 + 1*2.1.4 + 100*3.1.2\nrelation 3.4.2 = 1*2.1.3\nrelation 3.4.3 = 100*3.1.4\nrelation 3.4.4 = 0\nstopped degree limit last 3\nhilbert 1 4 8 11\n";
 
@@ -218,13 +218,7 @@ fn eight_threes(alloc: Global) -> Result<String, Fail> {
 fn a_rack_of_24_letters_has_too_many_products(rt: HostRuntime) -> Result<(), Fail> {
     let alloc = rt.alloc();
     let document = eight_threes(alloc)?;
-    let given = Run {
-        words: &["algebra", "--brief"],
-        document: document.as_bytes(),
-        reads: &[],
-        writes: &[],
-        most: 4096,
-    };
+    let given = Run::steady(&["algebra", "--brief"], document.as_bytes());
     let (written, ended) = ran(&rt, alloc, given)?;
     let text =
         "nichols p 101 letters 24 degree 12 rows 1024\ndegree 0 dimension 1\ndegree 1 dimension 24\ndegree 2 dimension 284\ndegree 3 dimension 2208\nstopped wide degree 4 last 3\nhilbert 1 24 284 2208\n";
@@ -244,15 +238,15 @@ const CLOSED_ALGEBRAS: [(&str, &str); 5] = [
         "closed top 9 dimension 72\nhilbert 1 4 8 11 12 12 11 8 4 1 0\nfactors 6 3 2 2\n",
     ),
     (
-        "modulus = 2\nrack = [[1, 4, 2, 3], [3, 2, 4, 1], [4, 1, 3, 2], [2, 3, 1, 4]]\ncocycle = 1\n",
+        TETRAHEDRON_TWO,
         "closed top 6 dimension 36\nhilbert 1 4 8 10 8 4 1 0\nfactors 3 3 2 2\n",
     ),
     (
-        "modulus = 101\nrack = [[1, 4, 5, 2, 3, 6], [4, 2, 6, 1, 5, 3], [5, 6, 3, 4, 1, 2], [2, 1, 3, 4, 6, 5], [3, 2, 1, 6, 5, 4], [1, 3, 2, 5, 4, 6]]\ncocycle = -1\n",
+        SIX_TRANSPOSITIONS,
         "closed top 12 dimension 576\nhilbert 1 6 19 42 71 96 106 96 71 42 19 6 1 0\nfactors 4 4 3 3 2 2\n",
     ),
     (
-        "modulus = 101\nrack = [[1, 3, 5, 2, 4], [5, 2, 4, 1, 3], [4, 1, 3, 5, 2], [3, 5, 2, 4, 1], [2, 4, 1, 3, 5]]\ncocycle = -1\n",
+        AFFINE_FIVE,
         "closed top 16 dimension 1280\nhilbert 1 5 15 35 66 105 145 175 186 175 145 105 66 35 15 5 1 0\nfactors 5 4 4 4 4\n",
     ),
 ];
@@ -261,13 +255,7 @@ const CLOSED_ALGEBRAS: [(&str, &str); 5] = [
 fn known_algebras_close(rt: HostRuntime) -> Result<(), Fail> {
     let alloc = rt.alloc();
     for (document, end) in CLOSED_ALGEBRAS {
-        let given = Run {
-            words: &["algebra", "--degree", "60"],
-            document: document.as_bytes(),
-            reads: &[],
-            writes: &[],
-            most: 4096,
-        };
+        let given = Run::steady(&["algebra", "--degree", "60"], document.as_bytes());
         let (written, ended) = ran(&rt, alloc, given)?;
         assert!(rt; written.ends_with(end.as_bytes()), "of {document}");
         assert_eq!(rt; ended, 0, "of {document}");

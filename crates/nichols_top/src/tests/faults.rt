@@ -1,9 +1,7 @@
 //! Runs in which something fails, or whose words are no command.
 
-use super::{Run, THREE, ran};
+use super::{Run, THREE, UP_TO_TWO, ran};
 use std::test::Fail;
-
-const UP_TO_TWO: &[&str] = &["algebra", "--degree", "2"];
 
 const USAGE: &str =
     "usage: nichols algebra or reduce or symmetrize or points K [--degree N] [--rows N] [--workers N] [--window N] [--brief]\n";
@@ -48,11 +46,9 @@ fn faults_are_told(rt: HostRuntime) -> Result<(), Fail> {
     let alloc = rt.alloc();
     for (words, document, reads, writes, text, status) in FAULTS {
         let given = Run {
-            words,
-            document: document.as_bytes(),
             reads,
             writes,
-            most: 4096,
+            ..Run::steady(words, document.as_bytes())
         };
         let (written, ended) = ran(&rt, alloc, given)?;
         assert_eq!(rt;
@@ -72,11 +68,8 @@ fn a_sink_fails_after_each_number_of_writes(rt: HostRuntime) -> Result<(), Fail>
     let mut before = Vec::new(alloc);
     for (write, piece) in (1..6u64).zip(PIECES) {
         let given = Run {
-            words: UP_TO_TWO,
-            document: THREE.as_bytes(),
-            reads: &[],
             writes: &[write],
-            most: 4096,
+            ..Run::steady(UP_TO_TWO, THREE.as_bytes())
         };
         let (written, ended) = ran(&rt, alloc, given)?;
         assert_eq!(rt; written.as_slice(), before.as_slice(), "at write {write}");
@@ -91,13 +84,7 @@ fn the_longest_document_is_read(rt: HostRuntime) -> Result<(), Fail> {
     let alloc = rt.alloc();
     let mut document = THREE.as_bytes().to_vec(alloc)?;
     document.resize(1_048_576, b'\n')?;
-    let given = Run {
-        words: &["algebra", "--degree", "0"],
-        document: document.as_slice(),
-        reads: &[],
-        writes: &[],
-        most: 4096,
-    };
+    let given = Run::steady(&["algebra", "--degree", "0"], document.as_slice());
     let (written, ended) = ran(&rt, alloc, given)?;
     let report =
         "nichols p 101 letters 3 degree 0 rows 1024\ndegree 0 dimension 1\nbasis e\nstopped degree limit last 0\nhilbert 1\n";

@@ -1,55 +1,28 @@
 //! The degrees of some algebras by the plain program.
 
-use nichols_braid::{Braid, Scalars};
-use nichols_field::Field;
+use nichols_braid::Braid;
 use nichols_graded::Graded;
 use nichols_plain::plain_degree;
+use nichols_testing::{braid_with_constant, braid_with_table, one_letter, three_transpositions};
 use nichols_words::Relation;
-use std::alloc::{AllocError, Global};
+use std::alloc::Global;
 use std::test::Fail;
 use std::thread::Threads;
 
-fn table(alloc: Global, entries: &[&[i64]]) -> Result<Vec<Vec<i64>>, AllocError> {
-    let mut out = Vec::new(alloc);
-    for row in entries {
-        out.push(row.to_vec(alloc)?)?;
-    }
-    Ok(out)
-}
-
-fn braid(alloc: Global, modulus: i64, rack: &[&[i64]], scalars: &Scalars) -> Result<Braid, Fail> {
-    let field = Field::new(modulus).map_err(|_| "no field")?;
-    let rack = table(alloc, rack)?;
-    let braid = Braid::new(alloc, field, rack.as_slice(), scalars).map_err(|_| "no braid")?;
-    Ok(braid)
-}
-
-/// One letter with the scalar 2 over seven elements: the third power is zero.
-fn one_letter(alloc: Global) -> Result<Braid, Fail> {
-    braid(alloc, 7, &[&[1]], &Scalars::Constant(2))
-}
-
-fn three_transpositions(alloc: Global) -> Result<Braid, Fail> {
-    let rack: [&[i64]; 3] = [&[1, 3, 2], &[3, 2, 1], &[2, 1, 3]];
-    braid(alloc, 101, &rack, &Scalars::Constant(-1))
-}
-
 fn tetrahedron(alloc: Global) -> Result<Braid, Fail> {
     let rack: [&[i64]; 4] = [&[1, 4, 2, 3], &[3, 2, 4, 1], &[4, 1, 3, 2], &[2, 3, 1, 4]];
-    braid(alloc, 101, &rack, &Scalars::Constant(-1))
+    braid_with_constant(alloc, 101, &rack, -1)
 }
 
 /// Two letters that act as the identity, and the scalar -1 but for `q(1, 2)`, which is 1.
 fn two_letters(alloc: Global) -> Result<Braid, Fail> {
-    let scalars = table(alloc, &[&[-1, 1], &[-1, -1]])?;
-    braid(alloc, 101, &[&[1, 2], &[1, 2]], &Scalars::Table(scalars))
+    braid_with_table(alloc, 101, &[&[1, 2], &[1, 2]], &[&[-1, 1], &[-1, -1]])
 }
 
 /// The three transpositions over five elements, with scalars that differ.
 fn twisted(alloc: Global) -> Result<Braid, Fail> {
     let rack: [&[i64]; 3] = [&[1, 3, 2], &[3, 2, 1], &[2, 1, 3]];
-    let scalars = table(alloc, &[&[3, 3, 3], &[1, 3, -1], &[1, -1, -2]])?;
-    braid(alloc, 5, &rack, &Scalars::Table(scalars))
+    braid_with_table(alloc, 5, &rack, &[&[3, 3, 3], &[1, 3, -1], &[1, -1, -2]])
 }
 
 fn are_same(left: &[Relation], right: &[Relation]) -> bool {

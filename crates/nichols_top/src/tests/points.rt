@@ -1,6 +1,6 @@
 //! Reports of the transpositions of some points.
 
-use super::{BRIEF, Row, Run, are_written, ran};
+use super::{BRIEF, FOUR_POINTS_TO_THREE, Row, Run, SIX_TRANSPOSITIONS, are_written, ran};
 use std::test::Fail;
 
 /// Reports of dimensions. In degree 2 each letter, each unordered pair of disjoint transpositions and each cycle of three
@@ -15,9 +15,7 @@ const REPORTS: [Row; 5] = [
     (
         &["points", "4", "--degree", "3", "--brief"],
         "",
-        &[
-            "nichols p 101 letters 6 degree 3 rows 1024\ndegree 0 dimension 1\ndegree 1 dimension 6\ndegree 2 dimension 19\ndegree 3 dimension 42\nstopped degree limit last 3\nhilbert 1 6 19 42\n",
-        ],
+        &[FOUR_POINTS_TO_THREE],
         3,
     ),
     (
@@ -46,10 +44,6 @@ const REPORTS: [Row; 5] = [
     ),
 ];
 
-/// The document that `points 4` stands for.
-const FOUR_POINTS: &str =
-    "modulus = 101\nrack = [[1, 4, 5, 2, 3, 6], [4, 2, 6, 1, 5, 3], [5, 6, 3, 4, 1, 2], [2, 1, 3, 4, 6, 5], [3, 2, 1, 6, 5, 4], [1, 3, 2, 5, 4, 6]]\ncocycle = -1\n";
-
 #[test]
 fn points_are_written_in_brief(rt: HostRuntime) -> Result<(), Fail> {
     let alloc = rt.alloc();
@@ -64,17 +58,14 @@ fn four_points_are_their_document(rt: HostRuntime) -> Result<(), Fail> {
     let alloc = rt.alloc();
     let runs: [(&[&str], &str); 2] = [
         (&["points", "4", "--degree", "13"], ""),
-        (&["algebra", "--brief", "--degree", "13"], FOUR_POINTS),
+        (
+            &["algebra", "--brief", "--degree", "13"],
+            SIX_TRANSPOSITIONS,
+        ),
     ];
     let mut texts = Vec::new(alloc);
     for (words, document) in runs {
-        let given = Run {
-            words,
-            document: document.as_bytes(),
-            reads: &[],
-            writes: &[],
-            most: 4096,
-        };
+        let given = Run::steady(words, document.as_bytes());
         let (written, ended) = ran(&rt, alloc, given)?;
         assert_eq!(rt; ended, 0, "{words:?}");
         texts.push(written)?;

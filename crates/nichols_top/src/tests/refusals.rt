@@ -1,14 +1,12 @@
 //! Documents that are refused.
 
-use super::{Run, THREE, ran};
+use super::{Run, THREE, UP_TO_TWO, ran};
 use std::alloc::{AllocError, Global};
 use std::test::Fail;
 use std::thread::Threads;
 
 /// One letter with the scalar 1 over seven elements.
 const ONE: &str = "modulus = 7\nrack = [[1]]\ncocycle = 1\n";
-
-const UP_TO_TWO: &[&str] = &["algebra", "--degree", "2"];
 
 const SYMMETRIZE: &[&str] = &["symmetrize"];
 
@@ -398,13 +396,7 @@ fn whole(alloc: Global, pieces: &[(usize, &str)]) -> Result<Vec<u8>, AllocError>
 fn is_refused<R: Threads + Sync>(rt: &R, alloc: Global, row: Refused) -> Result<bool, AllocError> {
     let (words, pieces, line) = row;
     let document = whole(alloc, pieces)?;
-    let given = Run {
-        words,
-        document: document.as_slice(),
-        reads: &[],
-        writes: &[],
-        most: 4096,
-    };
+    let given = Run::steady(words, document.as_slice());
     let (written, ended) = ran(rt, alloc, given)?;
     Ok(written.as_slice() == line.as_bytes() && ended == 2)
 }
@@ -421,13 +413,10 @@ fn documents_are_refused(rt: HostRuntime) -> Result<(), Fail> {
 #[test]
 fn bytes_that_are_no_text_are_refused(rt: HostRuntime) -> Result<(), Fail> {
     let alloc = rt.alloc();
-    let given = Run {
-        words: UP_TO_TWO,
-        document: b"modulus = 7\nrack = [[1]]\ncocycle = 2 # \xFF\n",
-        reads: &[],
-        writes: &[],
-        most: 4096,
-    };
+    let given = Run::steady(
+        UP_TO_TWO,
+        b"modulus = 7\nrack = [[1]]\ncocycle = 2 # \xFF\n",
+    );
     let (written, ended) = ran(&rt, alloc, given)?;
     assert_eq!(rt; written.as_slice(), b"refused: not TOML\n".as_slice());
     assert_eq!(rt; ended, 2);

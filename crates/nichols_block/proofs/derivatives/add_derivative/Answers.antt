@@ -11,7 +11,7 @@ use Rattle.nichols_value.specs.Block.{lower_basis}
 use Rattle.nichols_value.specs.Rule.{below_in, derivs_in, right_in}
 use Rattle.nichols_value.proofs.Blocks.{lower_basis_rises}
 use Rattle.nichols_value.proofs.FormCells.{form_cells_elements}
-use Rattle.nichols_value.proofs.Readings.{derivative_in_order}
+use Rattle.nichols_value.proofs.RuleEntries.{derivative_in_order}
 use Rattle.nichols_block.proofs.SpotsBelow.{columns_there, derivative_cells, derivative_there, others_at_spot, own_at_spot, right_elements, rule_words, spot_place, spot_within}
 use Rattle.nichols_block.proofs.derivatives.add_derivative.Goals as goal
 

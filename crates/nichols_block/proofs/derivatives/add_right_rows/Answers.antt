@@ -1,11 +1,11 @@
 use Rattle.std.proofs.Common.{[], ◌≡◌, ◌<◌, ◌∙◌, arith, ap, get_or, length, refl, subst, sym}
+use Rattle.std.proofs.lemmas.List.Elements.{All-from_recursion}
 use Rattle.nichols_field.specs.Field.{plus, times}
 use Rattle.nichols_tensor.specs.Combination.{AllElements}
 use Rattle.nichols_echelon.specs.Cells.{Cell, entry}
 use Rattle.nichols_echelon.specs.Sums.{sum_at}
 use Rattle.nichols_value.specs.Rule.{right_in}
 use Rattle.nichols_value.proofs.FormCells.{form_cells_elements}
-use Rattle.nichols_value.proofs.KeptRows.{all_at_place}
 use Rattle.nichols_block.proofs.RowSums.{no_sums, sums_more, below_wider, column_at}
 use Rattle.nichols_block.proofs.derivatives.add_right_rows.Goals as goal
 
@@ -17,7 +17,7 @@ add_scaled-requires-clause-elements c =
     let inside : c.loop-cell.cell-index < length c.args.cells.now = omega arith in
     let here : Cell = record { column = c.cell.inside.column; coefficient = c.cell.inside.coefficient } in
     form_cells_elements c.args.field c.args.rule.now.basis _ c.right_row-row.result.now
-    (all_at_place (AllElements c.args.field) (right_in c.args.rule.now c.args.c) c.cell.inside.column [] c.requires.forms
+    (All-from_recursion (AllElements c.args.field) (right_in c.args.rule.now c.args.c) c.requires.forms c.cell.inside.column []
     (column_at _ c.args.cells.now c.loop-cell.cell-index here c.requires.columns inside (subst (λ (d : Cell). d ≡ get_or c.args.cells.now c.loop-cell.cell-index d) (sym c.cell.view_is) c.cell-item.is)))
     c.right_row-row.ensures
 

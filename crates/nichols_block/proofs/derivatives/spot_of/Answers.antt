@@ -1,5 +1,5 @@
 use Rattle.std.proofs.Common.{◌-◌, ◌≤◌, arith, length, ap}
-use Rattle.nichols_block.proofs.SpotsFound.{is_followed, letter_at, never_missed, some_letters, spot_inside, spot_is_word}
+use Rattle.nichols_block.proofs.SpotsFound.{is_followed, letter_at, some_letters, spot_inside, spot_is_word, found_least}
 use Rattle.nichols_block.proofs.derivatives.spot_of.Goals as goal
 
 pub overflow_sub-k : goal.overflow_sub-k
@@ -17,19 +17,18 @@ words_below-requires-clause-letter c =
     letter_at c.args.braid.now c.args.key.now.degree c.args.key.now.product c.args.word (is_followed c.args.braid.now c.field-field.ensures.braid c.args.key.now.degree c.args.key.now.product c.args.word c.requires.block.some c.requires.new) _ c.letter-letter.result
     (ap (λ n. n - 1) c.len-k.ensures.value) c.letter-letter.ensures.value
 
-pub unreachable-requires : goal.unreachable-requires
-unreachable-requires c =
-    never_missed c.args.braid.now c.args.key.now.degree c.args.key.now.product c.args.word (is_followed c.args.braid.now c.field-field.ensures.braid c.args.key.now.degree c.args.key.now.product c.args.word c.requires.block.some c.requires.new)
-    (c.len-k.result - 1) c.letter-letter.result c.prefix-front.result c.words_below.result.now (ap (λ n. n - 1) c.len-k.ensures.value) c.letter-letter.ensures.value c.prefix-front.ensures c.words_below.ensures.same c.words_below.ensures.rising
-    c.in_default.field-0 c.in_default.ensures.bound c.in_default.ensures.position
+pub place_in-place-requires-clause-there : goal.place_in-place-requires-clause-there
+place_in-place-requires-clause-there c =
+    found_least c.args.braid.now c.args.key.now.degree c.args.key.now.product c.args.word (is_followed c.args.braid.now c.field-field.ensures.braid c.args.key.now.degree c.args.key.now.product c.args.word c.requires.block.some c.requires.new)
+    (c.len-k.result - 1) c.letter-letter.result c.prefix-front.result c.words_below.result.now (ap (λ n. n - 1) c.len-k.ensures.value) c.letter-letter.ensures.value c.prefix-front.ensures c.words_below.ensures.same
 
 pub returns-clause-inside : goal.returns-clause-inside
 returns-clause-inside c =
     spot_inside c.args.braid.now c.args.key.now.degree c.args.key.now.product c.args.word (is_followed c.args.braid.now c.field-field.ensures.braid c.args.key.now.degree c.args.key.now.product c.args.word c.requires.block.some c.requires.new)
-    (c.len-k.result - 1) c.letter-letter.result c.words_below.result.now (ap (λ n. n - 1) c.len-k.ensures.value) c.letter-letter.ensures.value c.words_below.ensures.same c.in-Ok.place c.in-Ok.ensures.bound
+    (c.len-k.result - 1) c.letter-letter.result c.words_below.result.now (ap (λ n. n - 1) c.len-k.ensures.value) c.letter-letter.ensures.value c.words_below.ensures.same c.place_in-place.result c.place_in-place.ensures.below
 
 pub returns-clause-word : goal.returns-clause-word
 returns-clause-word c =
     spot_is_word c.args.braid.now c.args.key.now.degree c.args.key.now.product c.args.word (is_followed c.args.braid.now c.field-field.ensures.braid c.args.key.now.degree c.args.key.now.product c.args.word c.requires.block.some c.requires.new)
-    (c.len-k.result - 1) c.letter-letter.result c.prefix-front.result c.words_below.result.now (ap (λ n. n - 1) c.len-k.ensures.value) c.letter-letter.ensures.value c.prefix-front.ensures c.words_below.ensures.same c.words_below.ensures.rising
-    c.in-Ok.place c.in-Ok.ensures.bound c.in-Ok.ensures.position
+    (c.len-k.result - 1) c.letter-letter.result c.prefix-front.result c.words_below.result.now (ap (λ n. n - 1) c.len-k.ensures.value) c.letter-letter.ensures.value c.prefix-front.ensures c.words_below.ensures.same
+    c.place_in-place.result c.place_in-place.ensures.place

@@ -9,9 +9,9 @@ loop-k-init c = record {
   zero = search rules;
   width = search rules;
   passing =
-      subst (λ ss. IsPassing c.args.braid.now c.args.key.now.degree c.args.key.now.product c.args.places.now (words_in c.args.listed.now) c.in_ok-no_rows.field-0.items c.in_ok-no_rows-2.field-0.items ss c.new-2.result.items 0) (sym c.new-4.ensures.items)
-      (subst (λ cs. IsPassing c.args.braid.now c.args.key.now.degree c.args.key.now.product c.args.places.now (words_in c.args.listed.now) c.in_ok-no_rows.field-0.items c.in_ok-no_rows-2.field-0.items [] cs 0) (sym c.new-2.ensures.items)
-      (pass_start c.args.braid.now c.field-field.ensures.braid c.args.key.now.degree c.args.key.now.product c.args.places.now c.args.listed.now c.in_ok-no_rows.field-0.items c.in_ok-no_rows-2.field-0.items c.args.braid.now.letters c.requires.block.some
+      subst (λ ss. IsPassing c.args.braid.now c.args.key.now.degree c.args.key.now.product c.args.places.now (words_in c.args.listed.now) c.in_ok-empty_rows_by_letter.field-0.items c.in_ok-empty_rows_by_letter-2.field-0.items ss c.new-2.result.items 0) (sym c.new-4.ensures.items)
+      (subst (λ cs. IsPassing c.args.braid.now c.args.key.now.degree c.args.key.now.product c.args.places.now (words_in c.args.listed.now) c.in_ok-empty_rows_by_letter.field-0.items c.in_ok-empty_rows_by_letter-2.field-0.items [] cs 0) (sym c.new-2.ensures.items)
+      (pass_start c.args.braid.now c.field-field.ensures.braid c.args.key.now.degree c.args.key.now.product c.args.places.now c.args.listed.now c.in_ok-empty_rows_by_letter.field-0.items c.in_ok-empty_rows_by_letter-2.field-0.items c.args.braid.now.letters c.requires.block.some
       (images_of_all c.args.braid.now c.args.key.now c.requires.block) c.requires.listed (search rules) (search rules) (search rules)));
 }
 

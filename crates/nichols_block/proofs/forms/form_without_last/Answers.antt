@@ -15,20 +15,20 @@ sent_to-c-requires-clause-block c =
 pub below-requires-clause-most : goal.below-requires-clause-most
 below-requires-clause-most c = right_most c.args.braid.now c.args.key.now.degree c.args.key.now.product c.args.word.now c.in-Some.rule.now c.sent_to-c.result (search rules) c.sent_to-c.ensures.letter
 
-pub place_of-requires-clause-there : goal.place_of-requires-clause-there
-place_of-requires-clause-there c =
+pub place_in-requires-clause-there : goal.place_in-requires-clause-there
+place_in-requires-clause-there c =
     right_there c.args.braid.now c.args.key.now.degree c.args.key.now.product c.args.word.now c.middle-inner.result c.in-Some.rule.now c.letter-a.result c.sent_to-c.result c.key.result.now c.below.result.now
     (right_read c.args.braid.now c.field-field.ensures.braid c.args.key.now.degree c.args.key.now.product c.requires.block.some c.args.word.now c.requires.word c.requires.least c.requires.other) (search rules) c.key.ensures
     c.letter-a.ensures.value c.sent_to-c.ensures.letter c.sent_to-c.ensures.words c.middle-inner.ensures c.below.ensures.same
 
 pub left_row-requires-clause-place : goal.left_row-requires-clause-place
 left_row-requires-clause-place c =
-    right_place c.args.braid.now c.args.key.now.degree c.args.key.now.product c.args.word.now c.in-Some.rule.now c.letter-a.result c.sent_to-c.result c.key.result.now c.below.result.now c.place_of.result
+    right_place c.args.braid.now c.args.key.now.degree c.args.key.now.product c.args.word.now c.in-Some.rule.now c.letter-a.result c.sent_to-c.result c.key.result.now c.below.result.now c.place_in.result
     (right_read c.args.braid.now c.field-field.ensures.braid c.args.key.now.degree c.args.key.now.product c.requires.block.some c.args.word.now c.requires.word c.requires.least c.requires.other) (search rules) c.key.ensures
-    c.letter-a.ensures.value c.sent_to-c.ensures.letter c.sent_to-c.ensures.words c.below.ensures.same c.place_of.ensures.below
+    c.letter-a.ensures.value c.sent_to-c.ensures.letter c.sent_to-c.ensures.words c.below.ensures.same c.place_in.ensures.below
 
 pub returns : goal.returns
 returns c =
-    right_cells c.args.braid.now c.args.key.now.degree c.args.key.now.product c.args.word.now c.middle-inner.result c.in-Some.rule.now c.letter-a.result c.sent_to-c.result c.key.result.now c.below.result.now c.place_of.result c.left_row.result.now
+    right_cells c.args.braid.now c.args.key.now.degree c.args.key.now.product c.args.word.now c.middle-inner.result c.in-Some.rule.now c.letter-a.result c.sent_to-c.result c.key.result.now c.below.result.now c.place_in.result c.left_row.result.now
     (right_read c.args.braid.now c.field-field.ensures.braid c.args.key.now.degree c.args.key.now.product c.requires.block.some c.args.word.now c.requires.word c.requires.least c.requires.other) (search rules) c.key.ensures
-    c.letter-a.ensures.value c.sent_to-c.ensures.letter c.sent_to-c.ensures.words c.middle-inner.ensures c.below.ensures.same c.place_of.ensures.below c.place_of.ensures.place c.left_row.ensures
+    c.letter-a.ensures.value c.sent_to-c.ensures.letter c.sent_to-c.ensures.words c.middle-inner.ensures c.below.ensures.same c.place_in.ensures.below c.place_in.ensures.place c.left_row.ensures

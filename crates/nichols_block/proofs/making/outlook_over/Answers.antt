@@ -1,7 +1,7 @@
 use Rattle.std.proofs.Common.{◌≡◌, ◌∙◌, sym}
 use Rattle.nichols_value.specs.Worth.{worth}
 use Rattle.nichols_block.specs.declared.making.Outlook.TheVariants.{Rules, Starved, Void}
-use Rattle.nichols_block.specs.Making.{allows}
+use Rattle.nichols_block.specs.Allowed.{allows}
 use Rattle.nichols_block.proofs.Outlooks.{each_more, some_here, some_more}
 use Rattle.nichols_block.proofs.making.outlook_over.Goals.{in-Rules, in-Void}
 use Rattle.nichols_block.proofs.making.outlook_over.Goals as goal

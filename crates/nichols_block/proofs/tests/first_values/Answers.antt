@@ -1,5 +1,5 @@
 use Rattle.std.proofs.Common.{rules, ◌≡◌, ◌+◌, [], ◌∷◌, ◌++◌, subst, sym}
-use Rattle.nichols_block.specs.Making.{AreRightFor}
+use Rattle.nichols_block.specs.Tested.{AreRightFor}
 use Rattle.nichols_block.proofs.TestedValues.{first_count, first_right, right_more, right_none}
 use Rattle.nichols_block.proofs.tests.first_values.Goals as goal
 

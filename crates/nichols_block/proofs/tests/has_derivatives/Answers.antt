@@ -4,7 +4,7 @@ use Rattle.nichols_value.specs.Block.{block_basis}
 use Rattle.nichols_value.specs.Rule.{PlainRule, derivs_in, rule_of}
 use Rattle.nichols_value.specs.Value.{IsRight}
 use Rattle.nichols_value.specs.Worth.{worth}
-use Rattle.nichols_value.proofs.Readings.{basis_is, derivs_size, lean_of_whole}
+use Rattle.nichols_value.proofs.RuleEntries.{basis_is, derivs_size, lean_of_whole}
 use Rattle.nichols_value.proofs.Wholes.{right_rule}
 use Rattle.nichols_block.proofs.tests.has_derivatives.Goals as goal
 

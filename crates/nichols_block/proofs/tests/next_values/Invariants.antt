@@ -1,5 +1,5 @@
 use Rattle.std.proofs.Common.{suc}
-use Rattle.nichols_block.specs.Making.{AreRightFor}
+use Rattle.nichols_block.specs.Tested.{AreRightFor}
 use Rattle.nichols_block.proofs.tests.next_values.Given as goal
 
 abbrev pub invariant-loop-k : goal.invariant-loop-k

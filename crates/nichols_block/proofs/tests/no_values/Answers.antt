@@ -1,6 +1,6 @@
 use Rattle.std.proofs.Common.{rules, ◌≡◌, ◌+◌, [], ◌∷◌, ◌++◌, inr, refl, subst, sym}
 use Rattle.nichols_value.specs.declared.shared.Shared.TheVariants as shared
-use Rattle.nichols_block.specs.Making.{AreRightFor}
+use Rattle.nichols_block.specs.Tested.{AreRightFor}
 use Rattle.nichols_block.proofs.TestedValues.{first_count, right_more, right_none}
 use Rattle.nichols_block.proofs.tests.no_values.Goals as goal
 

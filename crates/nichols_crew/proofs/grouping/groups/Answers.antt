@@ -1,6 +1,6 @@
 use Rattle.std.proofs.Common.{◌≡◌, ◌+◌, sym, refl, arith, subst}
 use Rattle.nichols_crew.specs.Groups.{AreGroups}
-use Rattle.nichols_crew.proofs.Grouped.{group_inside, groups_more}
+use Rattle.nichols_crew.proofs.GroupLists.{group_inside, groups_more}
 use Rattle.nichols_crew.proofs.grouping.groups.Goals as goal
 
 pub loop-start-preserved : goal.loop-start-preserved

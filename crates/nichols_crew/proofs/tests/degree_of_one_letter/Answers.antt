@@ -1,5 +1,5 @@
 use Rattle.std.proofs.Common.{arith}
-use Rattle.nichols_crew.proofs.Whole.{first_within}
+use Rattle.nichols_crew.proofs.WithinLimit.{first_within}
 use Rattle.nichols_crew.proofs.tests.degree_of_one_letter.Goals as goal
 
 pub wave-requires-clause-within : goal.wave-requires-clause-within

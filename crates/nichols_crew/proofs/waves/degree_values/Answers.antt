@@ -2,7 +2,7 @@ use Rattle.std.proofs.Common.{suc, subst}
 use Rattle.std.proofs.lemmas.Result.{IfOk-weaker}
 use Rattle.nichols_braid.specs.Products.{products}
 use Rattle.nichols_crew.specs.Groups.{AreGroups}
-use Rattle.nichols_crew.proofs.Grouped.{all_right, right_of_same}
+use Rattle.nichols_crew.proofs.GroupLists.{all_right, right_of_same}
 use Rattle.nichols_crew.proofs.waves.degree_values.Goals as goal
 
 pub returns : goal.returns

@@ -1,7 +1,7 @@
 use Rattle.std.proofs.Common.{◌+◌, ◌-◌, suc, take, drop, sym, refl, arith, subst}
 use Rattle.nichols_tensor.specs.Positions.{word_at}
 use Rattle.nichols_crew.specs.Wave.{AreRight}
-use Rattle.nichols_crew.proofs.Grouped.{right_next}
+use Rattle.nichols_crew.proofs.GroupLists.{right_next}
 use Rattle.nichols_crew.proofs.waves.group_values.Goals as goal
 
 pub loop-k-preserved : goal.loop-k-preserved

@@ -1,6 +1,6 @@
 use Rattle.std.proofs.Common.{◌≡◌, ◌+◌, suc, sym, arith, subst}
 use Rattle.nichols_block.specs.Lower.{AreLowerRules, AreLowerValues, IsUpperBlock}
-use Rattle.nichols_crew.proofs.Whole.{block_at, rules_are_right}
+use Rattle.nichols_crew.proofs.WithinLimit.{block_at, rules_are_right}
 use Rattle.nichols_crew.proofs.waves.value_of.Goals as goal
 
 pub make-requires-clause-block : goal.make-requires-clause-block

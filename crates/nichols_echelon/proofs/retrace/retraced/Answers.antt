@@ -3,16 +3,16 @@ use Rattle.nichols_field.proofs.FieldLaws.{one_is_element}
 use Rattle.nichols_echelon.specs.Cells.{Cell, AllBelow}
 use Rattle.nichols_echelon.specs.Sums.{IsTaken}
 use Rattle.nichols_echelon.specs.Sweep.{IsTraced}
-use Rattle.nichols_echelon.proofs.Shapes.{all_weaker}
 use Rattle.nichols_echelon.proofs.Retracing.{Retracing, reverse-push, retrace_start, retrace_more, retraced_all, before_end, zero_same}
 use Rattle.nichols_echelon.proofs.retrace.retraced.Goals as goal
+use Rattle.nichols_tensor.proofs.Over.{all-weaker}
 
 pub add_scaled-requires-clause-factor : goal.add_scaled-requires-clause-factor
 add_scaled-requires-clause-factor c = one_is_element c.args.field c.modulus-modulus.ensures.field
 
 pub add_scaled-requires-clause-below : goal.add_scaled-requires-clause-below
 add_scaled-requires-clause-below c =
-    all_weaker (λ (d : Cell). d.column < length c.args.echelon.now.steps.rows) (λ (d : Cell). d.column < length c.args.sums.now) (λ d b. omega (arith, b, c.requires.width)) c.args.steps.now c.requires.steps.below
+    all-weaker (λ (d : Cell). d.column < length c.args.echelon.now.steps.rows) (λ (d : Cell). d.column < length c.args.sums.now) (λ d b. omega (arith, b, c.requires.width)) c.args.steps.now c.requires.steps.below
 
 pub loop-cell-init : goal.loop-cell-init
 loop-cell-init c = record {
@@ -31,7 +31,7 @@ add_scaled-requires-in-Some-clause-below c =
     before_end c.args.field c.modulus-modulus.ensures.field c.args.echelon.now.pivots.items c.args.echelon.now.steps.rows c.args.steps.now c.loop-cell.sums c.loop-cell.end (reverse c.loop-cell.out.items) c.loop-cell.invariant.back
     c.take_last.new.self (record { column = c.cell.inside.column; coefficient = c.cell.inside.coefficient }) t in
     let inside : c.cell.inside.column < length c.args.echelon.now.steps.rows = omega (arith, before, c.loop-cell.invariant.back.inside) in
-    all_weaker (λ (d : Cell). d.column < c.cell.inside.column) (λ (d : Cell). d.column < length c.take_last.new.self)
+    all-weaker (λ (d : Cell). d.column < c.cell.inside.column) (λ (d : Cell). d.column < length c.take_last.new.self)
     (λ d b. omega (arith, b, inside, c.loop-cell.invariant.back.wide, c.take_last.ensures.width)) c.row.result.now
     (subst (AllBelow c.cell.inside.column) (sym c.row.ensures) (c.requires.all_steps c.cell.inside.column inside).below)
 

@@ -1,4 +1,4 @@
-use Rattle.nichols_expression.proofs.ReadingLaws.{grammar_is_accepted}
+use Rattle.nichols_expression.proofs.GrammarLaws.{grammar_is_accepted}
 use Rattle.nichols_expression.proofs.laws.grammar_is_accepted.Goals as goal
 
 pub returns : goal.returns

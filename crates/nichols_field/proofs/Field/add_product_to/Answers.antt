@@ -1,5 +1,5 @@
 use Rattle.std.proofs.Common.{ap, ◌∙◌, ◌*◌, ◌+◌, ◌%◌}
-use Rattle.nichols_field.specs.Field.{FieldValue, settled}
+use Rattle.nichols_field.specs.Field.{FieldValue, element_of_sum}
 use Rattle.nichols_field.proofs.Pending.{settled_product, settled_product_again}
 use Rattle.nichols_field.proofs.Field.add_product_to.Goals as goal
 
@@ -8,5 +8,5 @@ returns-then-pending-lt-ROOM c = settled_product c.args.self c.args.pending c.ar
 
 pub returns-else-pending-lt-ROOM : goal.returns-else-pending-lt-ROOM
 returns-else-pending-lt-ROOM c =
-    ap (λ (k : FieldValue). settled c.args.self (c.args.pending % k.size + c.args.a * c.args.b)) c.self.view_is
+    ap (λ (k : FieldValue). element_of_sum c.args.self (c.args.pending % k.size + c.args.a * c.args.b)) c.self.view_is
     ∙ settled_product_again c.args.self c.args.pending c.args.a c.args.b

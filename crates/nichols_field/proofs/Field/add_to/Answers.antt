@@ -1,5 +1,5 @@
 use Rattle.std.proofs.Common.{ap, ◌∙◌, ◌+◌, ◌%◌}
-use Rattle.nichols_field.specs.Field.{FieldValue, settled}
+use Rattle.nichols_field.specs.Field.{FieldValue, element_of_sum}
 use Rattle.nichols_field.proofs.Pending.{settled_sum, settled_sum_again}
 use Rattle.nichols_field.proofs.Field.add_to.Goals as goal
 
@@ -8,5 +8,5 @@ returns-then-pending-lt-ROOM c = settled_sum c.args.self c.args.pending c.args.a
 
 pub returns-else-pending-lt-ROOM : goal.returns-else-pending-lt-ROOM
 returns-else-pending-lt-ROOM c =
-    ap (λ (k : FieldValue). settled c.args.self (c.args.pending % k.size + c.args.a)) c.self.view_is
+    ap (λ (k : FieldValue). element_of_sum c.args.self (c.args.pending % k.size + c.args.a)) c.self.view_is
     ∙ settled_sum_again c.args.self c.args.pending c.args.a

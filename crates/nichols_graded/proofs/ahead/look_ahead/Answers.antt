@@ -1,7 +1,7 @@
 use Rattle.std.proofs.Common.{◌≡◌, suc, ◌+◌, Some, sym, ◌∙◌, ap, arith}
 use Rattle.nichols_graded.specs.declared.ends.Stop.TheVariants.{Wide}
 use Rattle.nichols_graded.proofs.EndLaws.{stop_by_limit, stop_by_products}
-use Rattle.nichols_graded.proofs.LookingAhead.{stop_is}
+use Rattle.nichols_graded.proofs.DegreeStops.{stop_is}
 use Rattle.nichols_graded.proofs.ahead.look_ahead.Goals as goal
 
 pub returns-then-degree_limit-above : goal.returns-then-degree_limit-above

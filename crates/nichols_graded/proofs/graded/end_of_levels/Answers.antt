@@ -1,6 +1,6 @@
 use Rattle.std.proofs.Common.{◌≡◌, ◌∙◌, sym, ap, subst, true, false}
 use Rattle.nichols_braid.specs.Braid.{IsBraid}
-use Rattle.nichols_graded.specs.Graded.{end_known}
+use Rattle.nichols_graded.specs.Ahead.{end_known}
 use Rattle.nichols_graded.proofs.FinishedDegrees.{empty_is, filled_is}
 use Rattle.nichols_graded.proofs.graded.end_of_levels.Goals as goal
 

@@ -1,7 +1,8 @@
-use Rattle.std.proofs.Common.{◌≡◌, ◌<◌, ◌≤◌, length, sym, ◌∙◌, ap, subst, arith}
+use Rattle.std.proofs.Common.{◌<◌, ◌≤◌, length, ◌∙◌, subst, arith}
 use Rattle.std.specs.List.Sorted.{IsPermutation}
+use Rattle.std.proofs.lemmas.List.{with_items_is}
 use Rattle.nichols_braid.specs.Products.{products}
-use Rattle.nichols_graded.proofs.DegreeLists.{sorted_relations, relations_more, written_back}
+use Rattle.nichols_graded.proofs.DegreeLists.{sorted_relations, relations_more}
 use Rattle.nichols_graded.proofs.merged.degree_relations.Goals as goal
 
 pub loop-k-preserved : goal.loop-k-preserved
@@ -12,7 +13,6 @@ loop-k-preserved c =
 pub returns : goal.returns
 returns c =
     let past : length (products c.args.levels.now.braid c.args.m) ≤ c.loop-k.k = subst (λ gs. length gs ≤ c.loop-k.k) c.products.ensures (omega (arith, c.len-k-end.ensures.value)) in
-    let size : length c.sort_by_candidate.new.relations ≡ length c.loop-k.relations.items = c.sort_by_candidate.ensures.len ∙ ap length c.as_mut_slice.ensures.value in
-    written_back c.loop-k.relations.len c.loop-k.relations.items c.sort_by_candidate.new.relations (sym c.as_mut_slice.ensures.len ∙ ap length c.as_mut_slice.ensures.value) size
+    with_items_is c.loop-k.relations c.sort_by_candidate.new.relations (c.sort_by_candidate.ensures.len ∙ c.as_mut_slice.ensures.len)
     ∙ sorted_relations c.args.levels.now.braid c.args.m c.loop-k.k c.loop-k.relations.items c.sort_by_candidate.new.relations past c.loop-k.invariant
     (subst (λ rs. IsPermutation rs c.sort_by_candidate.new.relations) c.as_mut_slice.ensures.value c.sort_by_candidate.ensures.permutation) c.sort_by_candidate.ensures.sorted

@@ -1,6 +1,6 @@
 use Rattle.std.proofs.Common.{◌≡◌, ◌+◌, suc, map, sym, ◌∙◌, ap, subst, arith}
 use Rattle.nichols_value.specs.Worth.{worth}
-use Rattle.nichols_graded.specs.Rows.{AreSizes, size_of}
+use Rattle.nichols_graded.specs.Sizes.{AreSizes, size_of}
 use Rattle.nichols_graded.proofs.BlockSizes.{sizes_are}
 use Rattle.nichols_graded.proofs.next.next_degree.Goals as goal
 

@@ -1,7 +1,7 @@
 use Rattle.std.proofs.Common.{◌≡◌, ◌≤◌, length, map}
 use Rattle.std.specs.List.{AllByRecursion}
 use Rattle.nichols_input.specs.Document.{values_from}
-use Rattle.nichols_input.specs.declared.TheConstants.{EXPRESSION_LIMIT}
+use Rattle.nichols_expression.specs.declared.TheConstants.{EXPRESSION_LIMIT}
 use Rattle.nichols_input.proofs.Values.{read_before}
 use Rattle.nichols_input.proofs.expressions.read_expressions.Given as goal
 use Rattle.nichols_tensor.specs.Combination.{AllElements}

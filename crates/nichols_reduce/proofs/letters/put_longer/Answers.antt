@@ -2,7 +2,7 @@ use Rattle.std.proofs.Common.{◌≡◌, ◌+◌, ◌≤◌, ◌∙◌, ap, refl
 use Rattle.std.proofs.lemmas.List.{with_items_is}
 use Rattle.nichols_braid.specs.Braid.{IsBraid, IsLetter}
 use Rattle.nichols_value.specs.Rule.{IsRuleOf, below_in}
-use Rattle.nichols_reduce.specs.Forms.{IsFormOf, followed}
+use Rattle.nichols_reduce.specs.Forms.{IsFormOf, followed_by_letter}
 use Rattle.nichols_reduce.specs.Sums.{HasGrownBy, combination_of}
 use Rattle.nichols_reduce.proofs.WordForms.{IsRuleOfPrefix, next_form, prefix_product, rule_of_prefix}
 use Rattle.nichols_reduce.proofs.letters.put_longer.Goals as goal
@@ -38,4 +38,4 @@ returns c =
     let width : length c.add_followed.new.sums ≡ c.zero_sums.new.sums.len = c.add_followed.auto.sums ∙ ap length c.as_mut_slice.ensures.value ∙ sym c.zero_sums.new.sums.ok.0 in
     subst (IsFormOf c.args.levels.now.braid (take (c.args.k + 1) c.args.word.now)) (sym (with_items_is c.zero_sums.new.sums c.add_followed.new.sums width))
     (next_form c.args.levels.now.braid is c.args.word.now c.args.k c.letter.result c.block_rule-rule.result.now c.requires.letters rule c.args.form.now c.as_mut_slice.result.now c.add_followed.new.sums (length c.basis.result.now) c.requires.form (c.as_mut_slice.ensures.value ∙ c.in_ok-zero_sums.ensures)
-    (subst (λ b. HasGrownBy b.field c.block_rule-rule.result.now.basis c.as_mut_slice.result.now (followed b c.block_rule-rule.result.now.key.degree (combination_of b.field (below_in c.block_rule-rule.result.now c.letter.result) c.args.form.now) c.letter.result) c.add_followed.new.sums) c.braid-braid.ensures c.add_followed.ensures))
+    (subst (λ b. HasGrownBy b.field c.block_rule-rule.result.now.basis c.as_mut_slice.result.now (followed_by_letter b c.block_rule-rule.result.now.key.degree (combination_of b.field (below_in c.block_rule-rule.result.now c.letter.result) c.args.form.now) c.letter.result) c.add_followed.new.sums) c.braid-braid.ensures c.add_followed.ensures))

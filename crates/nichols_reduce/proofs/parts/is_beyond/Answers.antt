@@ -1,6 +1,6 @@
 use Rattle.std.proofs.Common.{◌<◌, ◌≤◌, arith, nat_lt, ◌∙◌, ap}
 use Rattle.nichols_tensor.specs.Parts.{longest}
-use Rattle.nichols_reduce.proofs.Wholes.{beyond_long, beyond_short}
+use Rattle.nichols_reduce.proofs.LastDegree.{beyond_long, beyond_short}
 use Rattle.nichols_reduce.proofs.parts.is_beyond.Goals as goal
 
 pub returns-then-longest-last : goal.returns-then-longest-last

@@ -1,6 +1,6 @@
 use Rattle.std.proofs.Common.{◌≡◌, ◌≤◌, ◌<◌, ◌++◌, ◌∙◌, ap, sym, subst, length, arith}
 use Rattle.std.proofs.lemmas.List.{take_all}
-use Rattle.nichols_tensor.specs.Combination.{AllElements, HasSameValues, Term, extended, scaled}
+use Rattle.nichols_tensor.specs.Combination.{AllElements, HasSameValues, Term, linear_map, scalar_multiple}
 use Rattle.nichols_braid.specs.Braid.{IsBraid}
 use Rattle.nichols_reduce.specs.Forms.{form_of}
 use Rattle.nichols_reduce.proofs.PartForms.{sum_with, sum_without, whole_is}
@@ -18,7 +18,7 @@ loop-term-preserved c =
       values = elim c.if-len-last.branch [
         | then-len-last+in_ok-put_term w ↦
             sum_with c.args.levels.now.braid.field is.field (form_of c.args.levels.now.braid) c.args.terms.now c.loop-term.term-index c.term-item.result c.loop-term.sum.items c.if-len-last.sum.items c.in_ok-sum.sum.items inside c.term-item.is c.loop-term.invariant.values
-            (subst (λ (v : _). HasSameValues c.args.levels.now.braid.field v (c.loop-term.sum.items ++ scaled c.args.levels.now.braid.field c.term-item.result.coefficient (form_of c.args.levels.now.braid c.term-item.result.word))) (sym (ap (λ v. v.items) w.sum-is)) w.in_ok-put_term.ensures.values) gathered
+            (subst (λ (v : _). HasSameValues c.args.levels.now.braid.field v (c.loop-term.sum.items ++ scalar_multiple c.args.levels.now.braid.field c.term-item.result.coefficient (form_of c.args.levels.now.braid c.term-item.result.word))) (sym (ap (λ v. v.items) w.sum-is)) w.in_ok-put_term.ensures.values) gathered
         | else-len-last w ↦
             let long : c.args.levels.now.last < length c.term-item.result.word = omega (arith, size, w.if-len-last.false, c.last-last.ensures.value) in
             sum_without c.args.levels.now.braid is c.args.levels.now.last c.args.terms.now c.loop-term.term-index c.term-item.result c.loop-term.sum.items c.in_ok-sum.sum.items c.requires.letters c.requires.within inside c.term-item.is long c.loop-term.invariant.values
@@ -33,6 +33,6 @@ returns c =
     let field : c.field-field.result ≡ c.args.levels.now.braid.field = c.field-field.ensures.field ∙ ap (λ b. b.field) c.braid.ensures in
     let past : length c.args.terms.now ≤ c.loop-term.term-index = omega arith in
     whole_is c.args.levels.now.braid is c.args.terms.now c.loop-term.sum.items c.in_ok-form.form c.requires.letters c.requires.elements
-    (subst (λ f. HasSameValues c.args.levels.now.braid.field c.loop-term.sum.items (extended c.args.levels.now.braid.field (form_of c.args.levels.now.braid) f)) (take_all c.loop-term.term-index c.args.terms.now past) c.loop-term.invariant.values)
+    (subst (λ f. HasSameValues c.args.levels.now.braid.field c.loop-term.sum.items (linear_map c.args.levels.now.braid.field (form_of c.args.levels.now.braid) f)) (take_all c.loop-term.term-index c.args.terms.now past) c.loop-term.invariant.values)
     (subst (λ k. HasSameValues k c.in_ok-form.form c.loop-term.sum.items) field (subst (HasSameValues c.field-field.result c.in_ok-form.form) c.as_mut_slice.ensures.value c.in_ok-form.ensures.value))
     c.in_ok-form.ensures.shape (subst (λ k. AllElements k c.in_ok-form.form) field c.in_ok-form.ensures.elements)

@@ -2,7 +2,7 @@ use Rattle.std.proofs.Common.{◌∙◌, ap, sym}
 use Rattle.nichols_braid.specs.Kernel.{is_killed}
 use Rattle.nichols_braid.specs.WholeForm.{normal_form_by_parts}
 use Rattle.nichols_reduce.specs.Normal.{is_beyond}
-use Rattle.nichols_reduce.proofs.Wholes.{answer_beyond, answer_form}
+use Rattle.nichols_reduce.proofs.LastDegree.{answer_beyond, answer_form}
 use Rattle.nichols_reduce.proofs.reduced.normal.Goals as goal
 
 pub returns-then-is_beyond : goal.returns-then-is_beyond

@@ -1,8 +1,8 @@
 use Rattle.std.proofs.Common.{◌<◌, ◌≤◌, ◌++◌, ◌∙◌, sym, ap, length, arith}
 use Rattle.std.proofs.lemmas.List.{append-nil}
 use Rattle.nichols_field.specs.Field.{times}
-use Rattle.nichols_tensor.specs.Combination.{scaled, without_zeros}
-use Rattle.nichols_reduce.proofs.Growing.{terms_more, term_kept, term_dropped, taken_whole}
+use Rattle.nichols_tensor.specs.Combination.{scalar_multiple, without_zeros}
+use Rattle.nichols_reduce.proofs.GrowingSums.{terms_more, term_kept, term_dropped, taken_whole}
 use Rattle.nichols_reduce.proofs.sums.put_terms.Goals as goal
 use Rattle.nichols_reduce.proofs.sums.put_terms.Goals.{then-coefficient-ne0+in_ok-push, else-coefficient-ne0}
 
@@ -19,4 +19,4 @@ loop-k-preserved c =
 pub returns : goal.returns
 returns c =
     let past : length c.args.basis.now ≤ c.loop-k.k = omega arith in
-    c.loop-k.invariant ∙ ap (λ f. c.args.terms.now.items ++ without_zeros (scaled c.args.field c.args.by f)) (taken_whole c.args.field c.args.basis.now c.args.sums.now c.loop-k.k c.requires.width past)
+    c.loop-k.invariant ∙ ap (λ f. c.args.terms.now.items ++ without_zeros (scalar_multiple c.args.field c.args.by f)) (taken_whole c.args.field c.args.basis.now c.args.sums.now c.loop-k.k c.requires.width past)

@@ -1,9 +1,9 @@
-use Rattle.std.proofs.Common.{◌≡◌, ◌+◌, suc, sym, ◌∙◌, ap, arith, Err}
+use Rattle.std.proofs.Common.{◌+◌, suc, ◌∙◌, ap, arith}
 use Rattle.std.specs.Prelude.{is_some}
 use Rattle.std.proofs.lemmas.Result.{err_from_is_err_and}
 use Rattle.nichols_top.specs.Algebra.{scope_of}
-use Rattle.nichols_top.specs.declared.writer.Break.TheVariants.{Fault}
-use Rattle.nichols_top.proofs.Finishing.{IsAlgebra, ended_at, header_put, header_breaks, next_breaks, degrees_put, degrees_break, end_put, end_breaks, end_told, taken_at, fewer}
+use Rattle.nichols_top.proofs.Taking.{fault_passed}
+use Rattle.nichols_top.proofs.Finishing.{IsAlgebra, algebra_kept, ended_at, header_put, header_breaks, next_breaks, degrees_put, degrees_break, end_put, end_breaks, end_told, taken_at, fewer}
 use Rattle.nichols_top.proofs.algebra.put_pieces.Goals as goal
 
 pub returns-in_err-put_header-clause-pieces : goal.returns-in_err-put_header-clause-pieces
@@ -50,8 +50,7 @@ returns-in_err-put_degrees-2-clause-pieces g c =
     let p = err_from_is_err_and c.from_residual-in_err-put_degrees-2.result c.from_residual-in_err-put_degrees-2.ensures.1 in
     let e = c.last-next.ensures.value ∙ c.levels.ensures.last in
     let more = c.in_ok-advance.ensures.finished in
-    let is : IsAlgebra c.args.braid (scope_of c.args.options) c.advance.new.self =
-    record { braid_is = c.in_ok-advance.ensures.braid ∙ c.degrees.invariant.algebra.braid_is; limit_is = c.in_ok-advance.ensures.limit ∙ c.degrees.invariant.algebra.limit_is; rows_is = c.in_ok-advance.ensures.rows ∙ c.degrees.invariant.algebra.rows_is } in
+    let is : IsAlgebra c.args.braid (scope_of c.args.options) c.advance.new.self = algebra_kept c.degrees.invariant.algebra c.in_ok-advance.ensures.braid c.in_ok-advance.ensures.limit c.in_ok-advance.ensures.rows in
     rw (p.1, p.2)
     (degrees_break c.args.braid (scope_of c.args.options) (c.last-next.result + 1) c.advance.new.self is (omega (arith, e, more)) c.in_err-put_degrees-2.ensures.finished
     (taken_at c.args.braid (scope_of c.args.options) (c.last-next.result + 1) (omega (arith, e)) c.degrees.invariant.taken) c.in_err-put_degrees-2.ensures.pieces)
@@ -60,8 +59,7 @@ pub degrees-preserved : goal.degrees-preserved
 degrees-preserved g c =
     let e = c.last-next.ensures.value ∙ c.levels.ensures.last in
     let more = c.in_ok-advance.ensures.finished in
-    let is : IsAlgebra c.args.braid (scope_of c.args.options) c.advance.new.self =
-    record { braid_is = c.in_ok-advance.ensures.braid ∙ c.degrees.invariant.algebra.braid_is; limit_is = c.in_ok-advance.ensures.limit ∙ c.degrees.invariant.algebra.limit_is; rows_is = c.in_ok-advance.ensures.rows ∙ c.degrees.invariant.algebra.rows_is } in
+    let is : IsAlgebra c.args.braid (scope_of c.args.options) c.advance.new.self = algebra_kept c.degrees.invariant.algebra c.in_ok-advance.ensures.braid c.in_ok-advance.ensures.limit c.in_ok-advance.ensures.rows in
     record {
       same_sink = c.in_ok-put_degrees-2.ensures.same_sink ∙ c.degrees.invariant.same_sink;
       algebra = is;
@@ -74,24 +72,19 @@ pub degrees-smaller : goal.degrees-smaller
 degrees-smaller g c =
     let more = c.in_ok-advance.ensures.finished in
     let one = c.in_ok-advance.ensures.further c.in_default.is in
-    let is : IsAlgebra c.args.braid (scope_of c.args.options) c.advance.new.self =
-    record { braid_is = c.in_ok-advance.ensures.braid ∙ c.degrees.invariant.algebra.braid_is; limit_is = c.in_ok-advance.ensures.limit ∙ c.degrees.invariant.algebra.limit_is; rows_is = c.in_ok-advance.ensures.rows ∙ c.degrees.invariant.algebra.rows_is } in
+    let is : IsAlgebra c.args.braid (scope_of c.args.options) c.advance.new.self = algebra_kept c.degrees.invariant.algebra c.in_ok-advance.ensures.braid c.in_ok-advance.ensures.limit c.in_ok-advance.ensures.rows in
     fewer c.args.braid (scope_of c.args.options) c.advance.new.self c.degrees.graded.last is c.in_ok-put_degrees-2.ensures.finished (omega (arith, more, one))
 
 pub returns-in_err-put_degrees-clause-stopped : goal.returns-in_err-put_degrees-clause-stopped
 returns-in_err-put_degrees-clause-stopped g c = λ e.
     let p = err_from_is_err_and c.from_residual-in_err-put_degrees.result c.from_residual-in_err-put_degrees.ensures.1 in
-    let told = sym p.1 ∙ e in
-    let cause : p.0 ≡ Fault = cc in
-    let h = c.in_err-put_degrees.ensures.stopped (ap Err (sym p.2 ∙ cause)) in
+    let h = c.in_err-put_degrees.ensures.stopped (fault_passed p.1 p.2 e) in
     (h.0, h.1 ∙ c.in_ok-put_header.ensures.piece.sink.kept, h.2)
 
 pub returns-in_err-put_degrees-2-clause-stopped : goal.returns-in_err-put_degrees-2-clause-stopped
 returns-in_err-put_degrees-2-clause-stopped g c = λ e.
     let p = err_from_is_err_and c.from_residual-in_err-put_degrees-2.result c.from_residual-in_err-put_degrees-2.ensures.1 in
-    let told = sym p.1 ∙ e in
-    let cause : p.0 ≡ Fault = cc in
-    let h = c.in_err-put_degrees-2.ensures.stopped (ap Err (sym p.2 ∙ cause)) in
+    let h = c.in_err-put_degrees-2.ensures.stopped (fault_passed p.1 p.2 e) in
     (h.0, h.1 ∙ c.degrees.invariant.taken.takes.sink.kept, h.2)
 
 pub returns-in_err-stop-clause-pieces : goal.returns-in_err-stop-clause-pieces
@@ -99,8 +92,7 @@ returns-in_err-stop-clause-pieces g c =
     let p = err_from_is_err_and c.from_residual-in_err-stop.result c.from_residual-in_err-stop.ensures.1 in
     let e = c.last-next.ensures.value ∙ c.levels.ensures.last in
     let more = c.in_ok-advance.ensures.finished in
-    let is : IsAlgebra c.args.braid (scope_of c.args.options) c.advance.new.self =
-    record { braid_is = c.in_ok-advance.ensures.braid ∙ c.degrees.invariant.algebra.braid_is; limit_is = c.in_ok-advance.ensures.limit ∙ c.degrees.invariant.algebra.limit_is; rows_is = c.in_ok-advance.ensures.rows ∙ c.degrees.invariant.algebra.rows_is } in
+    let is : IsAlgebra c.args.braid (scope_of c.args.options) c.advance.new.self = algebra_kept c.degrees.invariant.algebra c.in_ok-advance.ensures.braid c.in_ok-advance.ensures.limit c.in_ok-advance.ensures.rows in
     rw (p.1, p.2)
     (next_breaks c.args.braid (scope_of c.args.options) (suc c.advance.new.self.last)
     (degrees_put c.args.braid (scope_of c.args.options) (c.last-next.result + 1) c.advance.new.self is (omega (arith, e, more)) c.in_ok-put_degrees-2.ensures.finished
@@ -111,8 +103,7 @@ returns-in_err-put_end-clause-pieces g c =
     let p = err_from_is_err_and c.from_residual-in_err-put_end.result c.from_residual-in_err-put_end.ensures.1 in
     let e = c.last-next.ensures.value ∙ c.levels.ensures.last in
     let more = c.in_ok-advance.ensures.finished in
-    let is : IsAlgebra c.args.braid (scope_of c.args.options) c.advance.new.self =
-    record { braid_is = c.in_ok-advance.ensures.braid ∙ c.degrees.invariant.algebra.braid_is; limit_is = c.in_ok-advance.ensures.limit ∙ c.degrees.invariant.algebra.limit_is; rows_is = c.in_ok-advance.ensures.rows ∙ c.degrees.invariant.algebra.rows_is } in
+    let is : IsAlgebra c.args.braid (scope_of c.args.options) c.advance.new.self = algebra_kept c.degrees.invariant.algebra c.in_ok-advance.ensures.braid c.in_ok-advance.ensures.limit c.in_ok-advance.ensures.rows in
     rw (p.1, p.2)
     (end_breaks c.args.braid (scope_of c.args.options) c.advance.new.self c.in_ok-stop.stop (ended_at c.args.braid (scope_of c.args.options) c.advance.new.self c.in_ok-stop.stop is (end_told c.advance.new.self c.in_ok-advance.advance c.in-Some.end c.in_ok-stop.stop c.in_ok-advance.ensures.end c.in-Some.is c.in_ok-stop.ensures))
     (degrees_put c.args.braid (scope_of c.args.options) (c.last-next.result + 1) c.advance.new.self is (omega (arith, e, more)) c.in_ok-put_degrees-2.ensures.finished
@@ -122,17 +113,14 @@ returns-in_err-put_end-clause-pieces g c =
 pub returns-in_err-put_end-clause-stopped : goal.returns-in_err-put_end-clause-stopped
 returns-in_err-put_end-clause-stopped g c = λ e.
     let p = err_from_is_err_and c.from_residual-in_err-put_end.result c.from_residual-in_err-put_end.ensures.1 in
-    let told = sym p.1 ∙ e in
-    let cause : p.0 ≡ Fault = cc in
-    let h = c.in_err-put_end.ensures.stopped (ap Err (sym p.2 ∙ cause)) in
+    let h = c.in_err-put_end.ensures.stopped (fault_passed p.1 p.2 e) in
     (h.0, h.1 ∙ c.in_ok-put_degrees-2.ensures.pieces.sink.kept ∙ c.degrees.invariant.taken.takes.sink.kept, h.2)
 
 pub returns-in-Some-clause-pieces : goal.returns-in-Some-clause-pieces
 returns-in-Some-clause-pieces g c =
     let e = c.last-next.ensures.value ∙ c.levels.ensures.last in
     let more = c.in_ok-advance.ensures.finished in
-    let is : IsAlgebra c.args.braid (scope_of c.args.options) c.advance.new.self =
-    record { braid_is = c.in_ok-advance.ensures.braid ∙ c.degrees.invariant.algebra.braid_is; limit_is = c.in_ok-advance.ensures.limit ∙ c.degrees.invariant.algebra.limit_is; rows_is = c.in_ok-advance.ensures.rows ∙ c.degrees.invariant.algebra.rows_is } in
+    let is : IsAlgebra c.args.braid (scope_of c.args.options) c.advance.new.self = algebra_kept c.degrees.invariant.algebra c.in_ok-advance.ensures.braid c.in_ok-advance.ensures.limit c.in_ok-advance.ensures.rows in
     end_put c.args.braid (scope_of c.args.options) c.advance.new.self c.in_ok-stop.stop (ended_at c.args.braid (scope_of c.args.options) c.advance.new.self c.in_ok-stop.stop is (end_told c.advance.new.self c.in_ok-advance.advance c.in-Some.end c.in_ok-stop.stop c.in_ok-advance.ensures.end c.in-Some.is c.in_ok-stop.ensures))
     (degrees_put c.args.braid (scope_of c.args.options) (c.last-next.result + 1) c.advance.new.self is (omega (arith, e, more)) c.in_ok-put_degrees-2.ensures.finished
     (taken_at c.args.braid (scope_of c.args.options) (c.last-next.result + 1) (omega (arith, e)) c.degrees.invariant.taken) c.in_ok-put_degrees-2.ensures.pieces)
@@ -140,6 +128,5 @@ returns-in-Some-clause-pieces g c =
 
 pub returns-in-Some-clause-ended : goal.returns-in-Some-clause-ended
 returns-in-Some-clause-ended g c =
-    let is : IsAlgebra c.args.braid (scope_of c.args.options) c.advance.new.self =
-    record { braid_is = c.in_ok-advance.ensures.braid ∙ c.degrees.invariant.algebra.braid_is; limit_is = c.in_ok-advance.ensures.limit ∙ c.degrees.invariant.algebra.limit_is; rows_is = c.in_ok-advance.ensures.rows ∙ c.degrees.invariant.algebra.rows_is } in
+    let is : IsAlgebra c.args.braid (scope_of c.args.options) c.advance.new.self = algebra_kept c.degrees.invariant.algebra c.in_ok-advance.ensures.braid c.in_ok-advance.ensures.limit c.in_ok-advance.ensures.rows in
     ended_at c.args.braid (scope_of c.args.options) c.advance.new.self c.in_ok-stop.stop is (end_told c.advance.new.self c.in_ok-advance.advance c.in-Some.end c.in_ok-stop.stop c.in_ok-advance.ensures.end c.in-Some.is c.in_ok-stop.ensures)

@@ -1,6 +1,6 @@
 use Rattle.std.proofs.Common.{◌≡◌, ◌-◌, suc, false}
 use Rattle.nichols_top.specs.Algebra.{scope_of, pieces_due}
-use Rattle.nichols_top.specs.Written.{written}
+use Rattle.nichols_top.specs.Written.{writer_seen}
 use Rattle.nichols_top.proofs.Finishing.{IsAlgebra, count, rest_from}
 use Rattle.nichols_top.proofs.Taking.{HasTaken}
 use Rattle.nichols_top.proofs.algebra.put_pieces.Given as goal
@@ -10,7 +10,7 @@ invariant-degrees g l = record {
   same_sink : l.out.sink.ghost_name ≡ l.fn.out.sink.ghost_name;
   algebra : IsAlgebra l.fn.braid (scope_of l.fn.options) l.graded;
   going : l.graded.ended ≡ false;
-  taken : HasTaken (pieces_due l.fn.braid (scope_of l.fn.options)) (rest_from l.fn.braid (scope_of l.fn.options) (suc l.graded.last)) (written g.K.Sink.taken g.K.Sink.faults l.fn.out) (written g.K.Sink.taken g.K.Sink.faults l.out);
+  taken : HasTaken (pieces_due l.fn.braid (scope_of l.fn.options)) (rest_from l.fn.braid (scope_of l.fn.options) (suc l.graded.last)) (writer_seen g.K.Sink.taken g.K.Sink.faults l.fn.out) (writer_seen g.K.Sink.taken g.K.Sink.faults l.out);
 }
 
 abbrev pub decreases-degrees : goal.decreases-degrees

@@ -2,11 +2,11 @@ use Rattle.std.proofs.lemmas.Result.{err_from_is_err_and}
 use Rattle.nichols_braid.specs.Points.{points_braid}
 use Rattle.nichols_top.specs.Algebra.{scope_of}
 use Rattle.nichols_top.specs.Due.{in_brief}
-use Rattle.nichols_top.specs.Written.{written}
+use Rattle.nichols_top.specs.Written.{writer_seen}
 use Rattle.nichols_top.proofs.Statuses.{algebra_unwritten}
 use Rattle.nichols_top.proofs.commands.put_points.Goals as goal
 
 pub returns-in_err-braid-clause-report : goal.returns-in_err-braid-clause-report
 returns-in_err-braid-clause-report g c =
     let p = err_from_is_err_and c.from_residual.result c.from_residual.ensures.1 in
-    rw (p.1, p.2) (algebra_unwritten (points_braid c.args.k) (in_brief (scope_of c.args.options)) (written g.K.Sink.taken g.K.Sink.faults c.args.out.now))
+    rw (p.1, p.2) (algebra_unwritten (points_braid c.args.k) (in_brief (scope_of c.args.options)) (writer_seen g.K.Sink.taken g.K.Sink.faults c.args.out.now))

@@ -10,7 +10,7 @@ use Rattle.nichols_top.specs.Input.{document_limit}
 use Rattle.nichols_top.specs.Report.{line_report}
 use Rattle.nichols_top.specs.declared.status.Status.TheVariants.{Usage, Refused, ReadFault}
 use Rattle.nichols_top.proofs.CommandReports.{unread_alike}
-use Rattle.nichols_top.proofs.Reading.{some_document, document_read, long_document, usage_chosen, command_chosen, long_chosen}
+use Rattle.nichols_top.proofs.DocumentRead.{some_document, document_read, long_document, usage_chosen, command_chosen, long_chosen}
 use Rattle.nichols_top.proofs.Statuses.{is_due}
 use Rattle.nichols_top.proofs.Taking.{no_memory_first}
 use Rattle.nichols_top.proofs.entry.put_report.Goals as goal

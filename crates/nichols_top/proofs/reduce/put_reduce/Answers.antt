@@ -1,8 +1,8 @@
-use Rattle.std.proofs.Common.{◌≡◌, sym, ◌∙◌, ap, Err}
+use Rattle.std.proofs.Common.{◌∙◌}
 use Rattle.std.proofs.lemmas.Result.{err_from_is_err_and}
 use Rattle.nichols_top.specs.Algebra.{scope_of}
-use Rattle.nichols_top.specs.declared.writer.Break.TheVariants.{Fault}
 use Rattle.nichols_top.proofs.Expressions.{reduce_first, reduce_breaks, reduce_whole}
+use Rattle.nichols_top.proofs.Taking.{fault_passed}
 use Rattle.nichols_top.proofs.reduce.put_reduce.Goals as goal
 
 pub returns-in_err-ended-clause-report : goal.returns-in_err-ended-clause-report
@@ -20,9 +20,7 @@ returns-in_err-put_forms-clause-report g c =
 pub returns-in_err-put_forms-clause-stopped : goal.returns-in_err-put_forms-clause-stopped
 returns-in_err-put_forms-clause-stopped g c = λ e.
     let p = err_from_is_err_and c.from_residual-in_err-put_forms.result c.from_residual-in_err-put_forms.ensures.1 in
-    let told = sym p.1 ∙ e in
-    let cause : p.0 ≡ Fault = cc in
-    let h = c.in_err-put_forms.ensures.stopped (ap Err (sym p.2 ∙ cause)) in
+    let h = c.in_err-put_forms.ensures.stopped (fault_passed p.1 p.2 e) in
     (h.0, h.1 ∙ c.in_ok-ended.ensures.pieces.sink.kept, h.2)
 
 pub returns-clause-report : goal.returns-clause-report

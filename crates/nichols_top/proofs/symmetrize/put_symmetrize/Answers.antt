@@ -2,7 +2,7 @@ use Rattle.std.proofs.Common.{◌≡◌, sym, ◌∙◌, ap, Some, None}
 use Rattle.std.proofs.lemmas.Result.{err_from_is_err_and}
 use Rattle.nichols_input.specs.Document.{DocumentValue}
 use Rattle.nichols_top.specs.Symmetrize.{first_long}
-use Rattle.nichols_top.specs.Written.{written}
+use Rattle.nichols_top.specs.Written.{writer_seen}
 use Rattle.nichols_top.proofs.Expressions.{long_written, images_first, images_break, images_whole}
 use Rattle.nichols_top.proofs.symmetrize.put_symmetrize.Goals as goal
 
@@ -10,7 +10,7 @@ pub returns-in-Some-clause-report : goal.returns-in-Some-clause-report
 returns-in-Some-clause-report g c =
     let document : DocumentValue = record { braid = c.document.inside.braid; expressions = c.document.inside.expressions.items } in
     let found : Some c.in-Some.number ≡ first_long 1 document.expressions = sym c.in-Some.is ∙ c.first_long.ensures.number ∙ ap (first_long 1) c.as_slice-expressions.ensures.value in
-    rw (← c.document.view_is) (long_written document c.in-Some.number (written g.K.Sink.taken g.K.Sink.faults c.args.out.now) (written g.K.Sink.taken g.K.Sink.faults c.put_refusal.new.out) c.put_refusal.result found c.put_refusal.ensures.report)
+    rw (← c.document.view_is) (long_written document c.in-Some.number (writer_seen g.K.Sink.taken g.K.Sink.faults c.args.out.now) (writer_seen g.K.Sink.taken g.K.Sink.faults c.put_refusal.new.out) c.put_refusal.result found c.put_refusal.ensures.report)
 
 pub returns-in_err-put_header-clause-report : goal.returns-in_err-put_header-clause-report
 returns-in_err-put_header-clause-report g c =

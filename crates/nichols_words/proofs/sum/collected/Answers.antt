@@ -3,9 +3,10 @@ use Rattle.std.proofs.lemmas.List.{drop_more}
 use Rattle.std.proofs.Math.ListN.{drop_of_length-le}
 use Rattle.nichols_field.specs.Field.{FieldValue, IsElement, plus}
 use Rattle.nichols_tensor.specs.Combination.{Term, without_zeros}
-use Rattle.nichols_words.proofs.Gathering.{are_one, added, gathered, gathering_start, gathering-same, gathering-other, gathering-end, gathered_value, gathered_shape, gathered_elements}
+use Rattle.nichols_words.proofs.Gathering.{added, gathered, gathering_start, gathering-same, gathering-other, gathering-end, gathered_value, gathered_shape, gathered_elements}
 use Rattle.nichols_words.proofs.sum.collected.Goals.{then-eq, else-eq+in_ok-put_nonzero, Joined-eq, In_ok-put_nonzero-2}
 use Rattle.nichols_words.proofs.sum.collected.Goals as goal
+use Rattle.nichols_tensor.specs.Gathered.{are_one}
 
 -- the test, and the sum, at the terms themselves
 tested : (t last seen_t seen_last : Term) (b : Bool) → t ≡ seen_t → last ≡ seen_last → b ≡ are_one t.word last.word → are_one seen_t.word seen_last.word ≡ b

@@ -5,7 +5,7 @@ use Rattle.nichols_braid.specs.Kernel.{is_killed}
 use Rattle.nichols_braid.specs.Least.{basis}
 use Rattle.nichols_braid.specs.Products.{products}
 use Rattle.nichols_value.specs.Block.{block_basis}
-use Rattle.nichols_value.proofs.Readings.{basis_is}
+use Rattle.nichols_value.proofs.RuleEntries.{basis_is}
 use Rattle.nichols_block.proofs.LevelRules.{empty_block, empty_blocks, empty_list, filled_list}
 use Rattle.nichols_block.proofs.levels.Levels.closed.Goals as goal
 

@@ -2,11 +2,12 @@ use Rattle.std.proofs.Common.{◌≡◌, ℕ, ◌+◌, ◌-◌, ◌<◌, [], ◌
 use Rattle.std.specs.Prelude.{slice_index, slice_set}
 use Rattle.nichols_braid.specs.Braid.{IsLetter}
 use Rattle.nichols_braid.specs.Product.{product_before, IsProduct}
-use Rattle.nichols_braid.proofs.InlineProducts.{padded_start, padded-set, row_size, row_letter, fields_made, field_of_size, rearranges, same_size, before_made, before_more, before_is_rearrangement}
+use Rattle.nichols_braid.proofs.InlineProducts.{padded_start, padded-set, row_size, row_letter, fields_made, field_of_size, rearranges, before_made, before_more, before_is_rearrangement}
 use Rattle.nichols_tensor.specs.Inline.{IsInline}
 use Rattle.nichols_braid.specs.declared.product.TheConstants.{ROOM}
 use Rattle.nichols_braid.proofs.Onto.{product_before_alike}
 use Rattle.nichols_braid.proofs.product.Product.back.Goals as goal
+use Rattle.nichols_braid.proofs.Rearranged.{rearranged_length}
 
 -- the lists have as many entries as there are letters
 pub loop-j-init : goal.loop-j-init
@@ -62,4 +63,4 @@ returns-clause-word c = λ w is.
 pub returns-clause-size : goal.returns-clause-size
 returns-clause-size c =
     ap length (made c).1
-    ∙ same_size c.args.braid.now.letters (product_before c.args.braid.now c.args.a c.args.self.now) (before_is_rearrangement c.args.braid.now c.row-row.ensures.braid.rack c.args.a c.requires.letter c.args.self.now (rearranges c.args.braid.now.letters c.args.self.now c.images-own.ensures.product c.requires.letters))
+    ∙ rearranged_length c.args.braid.now.letters (product_before c.args.braid.now c.args.a c.args.self.now) (before_is_rearrangement c.args.braid.now c.row-row.ensures.braid.rack c.args.a c.requires.letter c.args.self.now (rearranges c.args.braid.now.letters c.args.self.now c.images-own.ensures.product c.requires.letters))

@@ -1,10 +1,11 @@
 use Rattle.std.proofs.Common.{◌≡◌, ◌-◌, length, take, ◌∙◌, ap, arith}
 use Rattle.std.specs.Prelude.{slice_index}
 use Rattle.nichols_braid.specs.Product.{product_after, IsProduct}
-use Rattle.nichols_braid.proofs.InlineProducts.{padded_start, padded-set, row_size, row_letter, fields_made, field_of_size, rearranges, same_size, one_more, after_made, after_is_rearrangement, after_a_word}
+use Rattle.nichols_braid.proofs.InlineProducts.{padded_start, padded-set, row_size, row_letter, fields_made, field_of_size, rearranges, one_more, after_made, after_is_rearrangement, after_a_word}
 use Rattle.nichols_tensor.specs.Inline.{IsInline}
 use Rattle.nichols_braid.specs.declared.product.TheConstants.{ROOM}
 use Rattle.nichols_braid.proofs.product.Product.times.Goals as goal
+use Rattle.nichols_braid.proofs.Rearranged.{rearranged_length}
 
 -- the lists have as many entries as there are letters
 pub loop-j-init : goal.loop-j-init
@@ -52,4 +53,4 @@ returns-clause-word c = λ w is. (made c).1 ∙ ap (product_after c.args.braid.n
 pub returns-clause-size : goal.returns-clause-size
 returns-clause-size c =
     ap length (made c).1
-    ∙ same_size c.args.braid.now.letters (product_after c.args.braid.now c.args.a c.args.self.now) (after_is_rearrangement c.args.braid.now c.row-row.ensures.braid.rack c.args.a c.requires.letter c.args.self.now (rearranges c.args.braid.now.letters c.args.self.now c.images-own.ensures.product c.requires.letters))
+    ∙ rearranged_length c.args.braid.now.letters (product_after c.args.braid.now c.args.a c.args.self.now) (after_is_rearrangement c.args.braid.now c.row-row.ensures.braid.rack c.args.a c.requires.letter c.args.self.now (rearranges c.args.braid.now.letters c.args.self.now c.images-own.ensures.product c.requires.letters))

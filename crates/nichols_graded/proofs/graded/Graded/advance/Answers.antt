@@ -1,7 +1,8 @@
 use Rattle.std.proofs.Common.{◌≡◌, suc, ◌∙◌, sym, ap, subst, arith, inr}
-use Rattle.nichols_graded.specs.Graded.{IsAhead, graded_value, IsNext}
+use Rattle.nichols_graded.specs.Ahead.{IsAhead, IsNext}
+use Rattle.nichols_graded.specs.Graded.{graded_value}
 use Rattle.nichols_graded.proofs.FinishedDegrees.{next_within, stop_ends, stopped_ahead, open_ahead, on_top}
-use Rattle.nichols_graded.proofs.WholeBlocks.{next_is_within}
+use Rattle.nichols_graded.proofs.DegreeStops.{next_is_within}
 use Rattle.nichols_graded.proofs.graded.Graded.advance.Goals as goal
 
 pub returns-in-Stopped-clause-end : goal.returns-in-Stopped-clause-end

@@ -6,7 +6,7 @@ use Rattle.nichols_shelf.specs.Plan.{PlanValue}
 use Rattle.nichols_shelf.specs.Lists.{is_in}
 use Rattle.nichols_shelf.specs.Places.{edges, edge, wait_place}
 use Rattle.nichols_shelf.specs.Passes.{HasPickedNone}
-use Rattle.nichols_shelf.specs.Steps.{Mine, asked}
+use Rattle.nichols_shelf.specs.Steps.{Mine, ask_step}
 use Rattle.nichols_shelf.specs.Stands.{Holds}
 use Rattle.nichols_shelf.specs.Stored.{IsStored}
 use Rattle.nichols_shelf.proofs.Agreed.{stored_ask}
@@ -29,9 +29,9 @@ fetch_or-found-requires c =
     let here = c.wait_word-wait.ensures in (
       c.requires.pass.0,
       omega arith,
-      subst (λ (h : PlanValue). Allows (Holds h) slots p.place.id p.place.me c.wait_word-wait.result (λ n. bit_or n c.letter_bit-bit.result) (asked (step slots c.wait_word-wait.result c.letter_bit-bit.result 0 none) p.place.me)) (sym s.same_plan)
-          (subst (λ i. Allows (Holds g) slots p.place.id p.place.me i (λ n. bit_or n c.letter_bit-bit.result) (asked (step slots i c.letter_bit-bit.result 0 none) p.place.me)) (sym wait)
-          (subst (λ b. Allows (Holds g) slots p.place.id p.place.me (wait_place g (edge g k).lower) (λ n. bit_or n b) (asked (step slots (wait_place g (edge g k).lower) b 0 none) p.place.me)) (sym bit)
+      subst (λ (h : PlanValue). Allows (Holds h) slots p.place.id p.place.me c.wait_word-wait.result (λ n. bit_or n c.letter_bit-bit.result) (ask_step (step slots c.wait_word-wait.result c.letter_bit-bit.result 0 none) p.place.me)) (sym s.same_plan)
+          (subst (λ i. Allows (Holds g) slots p.place.id p.place.me i (λ n. bit_or n c.letter_bit-bit.result) (ask_step (step slots i c.letter_bit-bit.result 0 none) p.place.me)) (sym wait)
+          (subst (λ b. Allows (Holds g) slots p.place.id p.place.me (wait_place g (edge g k).lower) (λ n. bit_or n b) (ask_step (step slots (wait_place g (edge g k).lower) b 0 none) p.place.me)) (sym bit)
           (ask_allowed g slots p.place.id p.place.me k at.inside p.stored.live lists p.stored.undrawn (λ j in_j up. c.requires.may.unpicked j in_j (up ∙ at.upper))))),
     )
 

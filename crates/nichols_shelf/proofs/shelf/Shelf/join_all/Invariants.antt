@@ -1,6 +1,6 @@
 use Rattle.std.proofs.Common.{◌≡◌, ◌+◌, length}
 use Rattle.nichols_shelf.specs.Passes.{IsOf, view_of}
-use Rattle.nichols_shelf.specs.Joining.{AreNumbered, merged_all}
+use Rattle.nichols_shelf.specs.Joining.{AreNumbered, joined_views}
 use Rattle.nichols_shelf.proofs.shelf.Shelf.join_all.Given as goal
 
 abbrev pub invariant-loop-other : goal.invariant-loop-other
@@ -12,5 +12,5 @@ invariant-loop-other l = record {
   passes : (view_of l.pass).passes ≡ (view_of l.initial.pass).passes;
   held : (view_of l.pass).held ≡ (view_of l.initial.pass).held;
   resumed : (view_of l.pass).resumed ≡ (view_of l.initial.pass).resumed;
-  view : merged_all (view_of l.pass) l.other-iterator.rest.items ≡ merged_all (view_of l.initial.pass) l.fn.others.items;
+  view : joined_views (view_of l.pass) l.other-iterator.rest.items ≡ joined_views (view_of l.initial.pass) l.fn.others.items;
 }

@@ -5,7 +5,7 @@ use mathlib.Core.Option.{none}
 use Rattle.atomic_table.specs.Table.{Allows, step, rest}
 use Rattle.nichols_shelf.specs.Plan.{PlanValue}
 use Rattle.nichols_shelf.specs.Places.{blocks}
-use Rattle.nichols_shelf.specs.Steps.{Mine, drew, laid}
+use Rattle.nichols_shelf.specs.Steps.{Mine, draw_step, lay_step}
 use Rattle.nichols_shelf.specs.Stands.{Holds}
 use Rattle.nichols_shelf.proofs.Drawn.{draw_allowed}
 use Rattle.nichols_shelf.proofs.Laid.{lay_allowed}
@@ -24,8 +24,8 @@ swap-requires c =
     let inside = c.requires.number in (
       c.requires.table,
       omega arith,
-      subst (λ (h : PlanValue). Allows (Holds h) slots p.id p.me c.edge_word-word.result (λ _. 1) (drew (step slots c.edge_word-word.result 1 0 none) p.me)) (sym s.same_plan)
-          (subst (λ i. Allows (Holds g) slots p.id p.me i (λ _. 1) (drew (step slots i 1 0 none) p.me)) (sym here)
+      subst (λ (h : PlanValue). Allows (Holds h) slots p.id p.me c.edge_word-word.result (λ _. 1) (draw_step (step slots c.edge_word-word.result 1 0 none) p.me)) (sym s.same_plan)
+          (subst (λ i. Allows (Holds g) slots p.id p.me i (λ _. 1) (draw_step (step slots i 1 0 none) p.me)) (sym here)
           (draw_allowed g slots p.id p.me k inside can.live can.holds can.picked can.unlaid can.undrawn)),
     )
 
@@ -50,8 +50,8 @@ swap-requires-2 c =
     let after_write : q.me ≡ filled = c.exchange.ensures.3 ∙ ap (λ (m : Mine). (let n : Mine = (m.0, (k, Some c.args.value) ∷ rest m.1) in n)) after_draw in (
       c.exchange.ensures.0 ∙ (c.swap.ensures.0 ∙ c.requires.table),
       omega arith,
-      subst (λ (m : Mine). Allows (Holds s.board.shared.key) slots q.id m c.edge_word-word.result (λ _. 2) (laid (step slots c.edge_word-word.result 2 0 none) m)) (sym after_write)
-          (subst (λ (h : PlanValue). Allows (Holds h) slots q.id filled c.edge_word-word.result (λ _. 2) (laid (step slots c.edge_word-word.result 2 0 none) filled)) (sym s.same_plan)
-          (subst (λ i. Allows (Holds g) slots q.id filled i (λ _. 2) (laid (step slots i 2 0 none) filled)) (sym here)
+      subst (λ (m : Mine). Allows (Holds s.board.shared.key) slots q.id m c.edge_word-word.result (λ _. 2) (lay_step (step slots c.edge_word-word.result 2 0 none) m)) (sym after_write)
+          (subst (λ (h : PlanValue). Allows (Holds h) slots q.id filled c.edge_word-word.result (λ _. 2) (lay_step (step slots c.edge_word-word.result 2 0 none) filled)) (sym s.same_plan)
+          (subst (λ i. Allows (Holds g) slots q.id filled i (λ _. 2) (lay_step (step slots i 2 0 none) filled)) (sym here)
           (lay_allowed g slots q.id filled k c.args.value p.me.1 refl inside can.live can.holds (ap (λ t. t || is_in k p.me.0.drawn) (eq-eqb k k refl)) can.right can.equal))),
     )

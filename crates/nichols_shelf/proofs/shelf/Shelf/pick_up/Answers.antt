@@ -4,7 +4,7 @@ use Rattle.atomic_table.specs.Table.{Allows, step, rest}
 use Rattle.nichols_value.specs.declared.shared.Shared.{Shared}
 use Rattle.nichols_shelf.specs.Plan.{PlanValue}
 use Rattle.nichols_shelf.specs.Places.{blocks}
-use Rattle.nichols_shelf.specs.Steps.{Mine, picked}
+use Rattle.nichols_shelf.specs.Steps.{Mine, pick_step}
 use Rattle.nichols_shelf.specs.Stands.{Holds}
 use Rattle.nichols_shelf.proofs.Picked.{pick_allowed}
 use Rattle.nichols_shelf.proofs.shelf.Shelf.pick_up.Goals as goal
@@ -22,8 +22,8 @@ swap-requires c =
     let inside = c.requires.number in (
       c.requires.table,
       omega arith,
-      subst (λ (h : PlanValue). Allows (Holds h) slots p.id p.me c.edge_word.result (λ _. 3) (picked (step slots c.edge_word.result 3 0 none) p.me)) (sym s.same_plan)
-          (subst (λ i. Allows (Holds g) slots p.id p.me i (λ _. 3) (picked (step slots i 3 0 none) p.me)) (sym here)
+      subst (λ (h : PlanValue). Allows (Holds h) slots p.id p.me c.edge_word.result (λ _. 3) (pick_step (step slots c.edge_word.result 3 0 none) p.me)) (sym s.same_plan)
+          (subst (λ i. Allows (Holds g) slots p.id p.me i (λ _. 3) (pick_step (step slots i 3 0 none) p.me)) (sym here)
           (pick_allowed g slots p.id p.me k inside can.live can.holds can.knows can.unpicked)),
     )
 

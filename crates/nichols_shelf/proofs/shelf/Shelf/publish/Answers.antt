@@ -6,7 +6,7 @@ use Rattle.nichols_shelf.specs.Plan.{PlanValue}
 use Rattle.nichols_shelf.specs.Places.{blocks}
 use Rattle.nichols_shelf.specs.Views.{publish_view}
 use Rattle.nichols_shelf.specs.Words.{HasLetter}
-use Rattle.nichols_shelf.specs.Steps.{Mine, published}
+use Rattle.nichols_shelf.specs.Steps.{Mine, publish_step}
 use Rattle.nichols_shelf.specs.Stands.{Holds}
 use Rattle.nichols_shelf.proofs.Bits.{low_bits, low_bit}
 use Rattle.nichols_shelf.proofs.Published.{publish_allowed}
@@ -24,8 +24,8 @@ fetch_or-found-requires c =
     let here = c.wait_word-wait.ensures in (
       c.requires.pass.0,
       omega arith,
-      subst (λ (h : PlanValue). Allows (Holds h) slots p.place.id p.place.me c.wait_word-wait.result (λ n. bit_or n 9223372036854775808) (published (step slots c.wait_word-wait.result 9223372036854775808 0 none) p.place.me)) (sym s.same_plan)
-          (subst (λ i. Allows (Holds g) slots p.place.id p.place.me i (λ n. bit_or n 9223372036854775808) (published (step slots i 9223372036854775808 0 none) p.place.me)) (sym here)
+      subst (λ (h : PlanValue). Allows (Holds h) slots p.place.id p.place.me c.wait_word-wait.result (λ n. bit_or n 9223372036854775808) (publish_step (step slots c.wait_word-wait.result 9223372036854775808 0 none) p.place.me)) (sym s.same_plan)
+          (subst (λ i. Allows (Holds g) slots p.place.id p.place.me i (λ n. bit_or n 9223372036854775808) (publish_step (step slots i 9223372036854775808 0 none) p.place.me)) (sym here)
           (publish_allowed g slots p.place.id p.place.me c.args.block b p.stored.live may.holds may.picked may.laid p.stored.slots)),
     )
 

@@ -1,8 +1,7 @@
-use Rattle.nichols_shelf.specs.Passes.{IsOf, view_of}
-use Rattle.nichols_shelf.specs.Played.{KeepsNumbers}
+use Rattle.nichols_shelf.specs.Played.{StaysOf}
 use Rattle.nichols_shelf.proofs.tests.threads.play_out.Given as goal
 
 abbrev pub invariant-loop : goal.invariant-loop
 invariant-loop l =
-    IsOf l.shelf l.zero.pass × IsOf l.shelf l.one.pass
-    × KeepsNumbers (view_of l.initial.zero.pass) (view_of l.zero.pass) × KeepsNumbers (view_of l.initial.one.pass) (view_of l.one.pass)
+    StaysOf l.shelf l.initial.zero.pass l.zero.pass × StaysOf l.shelf l.initial.one.pass l.one.pass
+    × StaysOf l.shelf l.initial.two.pass l.two.pass × StaysOf l.shelf l.initial.three.pass l.three.pass

@@ -1,13 +1,13 @@
 use Rattle.std.proofs.Common.{◌≡◌, ◌∙◌, length, ap, sym, subst}
-use Rattle.nichols_tensor.specs.Combination.{AllElements, value_at, scaled, without_zeros}
+use Rattle.nichols_tensor.specs.Combination.{AllElements, value_at, scalar_multiple, without_zeros}
 use Rattle.nichols_tensor.specs.WordOrder.{IsOrdered}
 use Rattle.nichols_tensor.specs.Words.{IsOver, IsWordOver, HasDegree}
-use Rattle.nichols_tensor.proofs.Building.{nonzero-scaled, without_zeros-nonzero, value_at-multiple, ordered-multiple, elements-multiple, all-multiple}
+use Rattle.nichols_tensor.proofs.Building.{nonzero-scalar_multiple, without_zeros-nonzero, value_at-multiple, ordered-multiple, elements-multiple, all-multiple}
 use Rattle.nichols_words.proofs.comb.Comb.scale.Goals.{In_ok-terms}
 use Rattle.nichols_words.proofs.comb.Comb.scale.Goals as goal
 
-terms_are : (c : In_ok-terms) → c.in_ok-terms.terms.items ≡ without_zeros (scaled c.args.field c.args.by c.args.self.now)
-terms_are c = c.in_ok-terms.ensures ∙ ap (λ f. without_zeros (scaled c.args.field c.args.by f)) c.terms.ensures.same
+terms_are : (c : In_ok-terms) → c.in_ok-terms.terms.items ≡ without_zeros (scalar_multiple c.args.field c.args.by c.args.self.now)
+terms_are c = c.in_ok-terms.ensures ∙ ap (λ f. without_zeros (scalar_multiple c.args.field c.args.by f)) c.terms.ensures.same
 
 ordered : (c : In_ok-terms) → IsOrdered c.in_ok-terms.terms.items
 ordered c = subst IsOrdered (sym (terms_are c)) (ordered-multiple c.args.field c.args.by c.args.self.now c.terms.ensures.shape.rising)
@@ -17,8 +17,8 @@ invariant_of-result c = ordered c
 
 pub returns-clause-each_stays : goal.returns-clause-each_stays
 returns-clause-each_stays c =
-    λ nonzero. terms_are c ∙ without_zeros-nonzero (scaled c.args.field c.args.by c.args.self.now)
-    (nonzero-scaled c.args.field c.modulus-modulus.ensures.field c.args.by c.args.self.now c.requires.factor nonzero c.requires.coefficients c.terms.ensures.shape.nonzero)
+    λ nonzero. terms_are c ∙ without_zeros-nonzero (scalar_multiple c.args.field c.args.by c.args.self.now)
+    (nonzero-scalar_multiple c.args.field c.modulus-modulus.ensures.field c.args.by c.args.self.now c.requires.factor nonzero c.requires.coefficients c.terms.ensures.shape.nonzero)
 
 pub returns-clause-value : goal.returns-clause-value
 returns-clause-value c =

@@ -9,7 +9,7 @@ use Rattle.nichols_shelf.specs.Places.{blocks, edges}
 use Rattle.nichols_shelf.specs.Views.{pick_view}
 use Rattle.nichols_shelf.specs.Played.{Mirrors}
 use Rattle.nichols_shelf.specs.declared.view.View.{View}
-use Rattle.nichols_shelf.proofs.Mirrored.{one_in, read_mark, may_pick, mirror_pick}
+use Rattle.nichols_shelf.proofs.Mirrored.{one_in, read_mark, may_pick, mirror_pick, held_read}
 use Rattle.nichols_shelf.proofs.tests.player.Player.pick.Goals as goal
 
 pub pick-value-requires-clause-may : goal.pick-value-requires-clause-may
@@ -20,8 +20,7 @@ pick-value-requires-clause-may c =
     let b = c.args.block in
     let same = c.requires.shelf.1 in
     let n = c.in_ok-number.number in
-    let inside : b < length s.held.items = let room = s.mirrors.held_room in let m = subst (λ (h : PlanValue). b < blocks h) (sym same) c.requires.block in omega arith in
-    let held = sym (read_mark s.held.items b c.index.result.now inside c.index.ensures) ∙ c.if-not-index.false in
+    let held = sym (held_read c.args.shelf.now.plan s.held.items s.resumed.items s.known.items s.picked.items s.laid.items v s.mirrors c.requires.shelf.1 b c.requires.block c.index.result.now c.index.ensures) ∙ c.if-not-index.false in
     let blocks_are : length l.degrees ≡ blocks v.plan = ap (λ (h : LayoutValue). length h.degrees) c.layout-layout.ensures ∙ ap (λ (h : PlanValue). blocks h) (sym same) in
     let edges_are : length l.edges ≡ edges v.plan = ap (λ (h : LayoutValue). length h.edges) c.layout-layout.ensures ∙ ap (λ (h : PlanValue). edges h) (sym same) in
     let low = c.edge-lower.ensures.placed.lower in

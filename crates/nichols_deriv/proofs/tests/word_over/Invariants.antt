@@ -1,5 +1,0 @@
-use Rattle.nichols_tensor.specs.Words.{IsWordOver}
-use Rattle.nichols_deriv.proofs.tests.word_over.Given as goal
-
-abbrev pub invariant-loop-letter : goal.invariant-loop-letter
-invariant-loop-letter l = IsWordOver l.braid.letters l.found

@@ -1,0 +1,3 @@
+-- what the functions of this program cite
+pub mod Pairs
+pub mod Crew

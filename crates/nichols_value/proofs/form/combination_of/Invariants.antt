@@ -1,6 +1,0 @@
-use Rattle.std.proofs.Common.{◌≡◌, take}
-use Rattle.nichols_rows.specs.CombinationAt.{combination_at}
-use Rattle.nichols_value.proofs.form.combination_of.Given as goal
-
-abbrev pub invariant-loop-cell : goal.invariant-loop-cell
-invariant-loop-cell l = l.terms.items ≡ combination_at l.words (take l.cell-index l.cells)
