@@ -1,5 +1,5 @@
 -- What a pass keeps agrees with what it knows, after each call.
-use Rattle.std.proofs.Common.{◌≡◌, ◌≢◌, ℕ, ◌+◌, ◌<◌, ◌≤◌, Bool, true, false, true≢false, cond, eqb, ltb, lt-ltb, ◌&&◌, ◌||◌, List, [], ◌∷◌, length, get_or, set, replicate, refl, sym, ap, ◌∙◌, eq-eqb, ne_eqb, lt_of_not-le, arith, Option, length-set, subst}
+use Rattle.std.proofs.Common.{not, ◌≡◌, ◌≢◌, ℕ, ◌+◌, ◌<◌, ◌≤◌, Bool, true, false, true≢false, cond, eqb, ltb, lt-ltb, ◌&&◌, ◌||◌, List, [], ◌∷◌, length, get_or, set, replicate, refl, sym, ap, ◌∙◌, eq-eqb, ne_eqb, lt_of_not-le, arith, Option, length-set, subst}
 use Rattle.std.specs.Prelude.{is_some, None}
 use Rattle.std.proofs.lemmas.Bool.{ltb-true, false_from_ne_true, or_right}
 use Rattle.std.proofs.Math.Bool.{and-true, and-false}
@@ -120,7 +120,7 @@ module _ (w n : ℕ) (marks : List Bool) (v : View) (out : List (ℕ × Option S
     worker = st.worker;
     passes = st.passes;
     live = st.live;
-    undrawn = ap (λ ds. without k (k ∷ ds)) st.undrawn ∙ ap (λ t. cond t [] (k ∷ [])) (eq-eqb k k refl);
+    undrawn = ap (λ ds. without k (k ∷ ds)) st.undrawn ∙ ap (λ t. cond (not t) (k ∷ []) []) (eq-eqb k k refl);
     slots = same_slots (lay_view v.plan k x second (draw_view v.plan k first v)) refl refl (λ c h. h);
   }
 

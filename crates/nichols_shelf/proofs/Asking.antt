@@ -1,5 +1,5 @@
 -- An ask keeps the rule, and changes the state as its event does.
-use Rattle.std.proofs.Common.{◌≡◌, ◌≢◌, ◌⊎◌, ℕ, ◌-◌, ◌<◌, ◌^◌, Bool, true, false, true≢false, cond, eqb, ◌&&◌, List, [], ◌∷◌, length, get_or, set, refl, sym, ap, ◌∙◌, subst, inl, inr, ⊎_elim, arith, length-set, get_or-set_other, get_or-set_same}
+use Rattle.std.proofs.Common.{◌≡◌, ◌≢◌, ◌⊎◌, ℕ, ◌-◌, ◌<◌, ◌^◌, Bool, true, false, true≢false, cond, eqb, List, ◌∷◌, length, get_or, set, refl, sym, ap, ◌∙◌, subst, inl, inr, ⊎_elim, arith, length-set, get_or-set_other, get_or-set_same}
 use Rattle.std.specs.Int.{bit_at}
 use Rattle.std.specs.Prelude.{bit_or, None, is_some}
 use Rattle.std.proofs.lemmas.Bool.{eqb-true, false_from_ne_true, or_cases, or_right, or_left}
@@ -124,7 +124,8 @@ module _ (g : PlanValue) (rules : IsLayout g.layout) (words : List ℕ) (m : Mac
   }
 
 module _ (g : PlanValue) (rules : IsLayout g.layout) (s : Tableau) (m : Machine) (laws : SixLaws g.layout.edges m) (book : Book) (st : Stands g s m book)
-    (id : ℕ) (v : View) (at : get_elem? s.views id ≡ some v) (live : v.live ≡ true) (k : ℕ) (in_k : k < edges g) (lists : is_in (edge g k).upper v.held ≡ true) (undrawn : v.drawn ≡ []) where
+    (id : ℕ) (v : View) (at : get_elem? s.views id ≡ some v) (live : v.live ≡ true) (k : ℕ) (in_k : k < edges g) (lists : is_in (edge g k).upper v.held ≡ true)
+    (unpicked : (j : ℕ) → j < edges g → (edge g j).upper ≡ (edge g k).upper → noted_value j v.picked ≡ None) where
   abbrev b : ℕ
   b = (edge g k).upper
 
@@ -139,6 +140,11 @@ module _ (g : PlanValue) (rules : IsLayout g.layout) (s : Tableau) (m : Machine)
 
   pub held : m.stage b ≡ Held v.worker
   held = held_by v.worker (m.stage b) (sym ((st.seats.knows id v at live).held b) ∙ lists)
+
+  pub none_picked : NonePicked g.layout.edges m b
+  none_picked j in_j up = false_from_ne_true (m.picked j) (λ p.
+      let tended = or_left (is_held_by v.worker (m.stage (edge g j).upper)) (is_made_by g m book.maker v.worker (edge g j).upper) (true_held v.worker (m.stage (edge g j).upper) (ap m.stage up ∙ held)) in
+      true≢false (sym ((st.slots.notes id v at live).picks j in_j tended p) ∙ ap is_some (unpicked j in_j up)))
 
   says : says_published found ≡ is_published (m.stage l)
   says = ap (λ x. eqb x 1) (st.words.done l (placed g rules k in_k).lower) ∙ says_so (m.stage l)
@@ -196,10 +202,9 @@ module _ (g : PlanValue) (rules : IsLayout g.layout) (s : Tableau) (m : Machine)
       made = λ u c ne. same_made u c;
     }
 
-    -- no edge out of a block that the pass holds is drawn
+    -- no edge out of the block is drawn: who draws has picked all edges into it
     none_drawn : (j : ℕ) → j < edges g → (edge g j).lower ≡ b → book.drawn j ≡ true → ⊥
-    none_drawn j in_j e d = true≢false (sym (ap (λ t. t && is_held_by v.worker (m.stage (edge g j).lower)) d ∙ true_held v.worker (m.stage (edge g j).lower) (ap m.stage e ∙ held))
-        ∙ sym ((st.slots.notes id v at live).draws j in_j) ∙ ap (is_in j) undrawn)
+    none_drawn j in_j e d = true≢false (sym ((st.slots.away j in_j d).full k in_k (sym e)) ∙ none_picked k in_k refl)
 
     parks : Stands g record { words = after_words; homes = s.homes; views = set s.views id let_go } n book
     parks = record {
@@ -238,11 +243,6 @@ module _ (g : PlanValue) (rules : IsLayout g.layout) (s : Tableau) (m : Machine)
       both true is = beside is
       both false is = parks is
 
-  pub none_picked : ((j : ℕ) → j < edges g → (edge g j).upper ≡ b → noted_value j v.picked ≡ None) → NonePicked g.layout.edges m b
-  none_picked unpicked j in_j up = false_from_ne_true (m.picked j) (λ p.
-      let tended = or_left (is_held_by v.worker (m.stage (edge g j).upper)) (is_made_by g m book.maker v.worker (edge g j).upper) (true_held v.worker (m.stage (edge g j).upper) (ap m.stage up ∙ held)) in
-      true≢false (sym ((st.slots.notes id v at live).picks j in_j tended p) ∙ ap is_some (unpicked j in_j up)))
-
 -- the bit names the edge
 named : (g : PlanValue) → IsLayout g.layout → (j k : ℕ) → j < edges g → k < edges g → wait_place g (edge g k).lower ≡ wait_place g (edge g j).lower → 2 ^ ((edge g k).letter - 1) ≡ 2 ^ ((edge g j).letter - 1) → k ≡ j
 named g rules j k in_j in_k place bit =
@@ -251,14 +251,14 @@ named g rules j k in_j in_k place bit =
     let y = (placed g rules k in_k).from_one in
     same_exit g rules k j in_k in_j (omega arith) (omega arith)
 
-pub ask_allowed : (g : PlanValue) (slots id : ℕ) (me : Mine) (k : ℕ) → k < edges g → me.0.live ≡ true → is_in (edge g k).upper me.0.held ≡ true → me.0.drawn ≡ []
+pub ask_allowed : (g : PlanValue) (slots id : ℕ) (me : Mine) (k : ℕ) → k < edges g → me.0.live ≡ true → is_in (edge g k).upper me.0.held ≡ true
     → ((j : ℕ) → j < edges g → (edge g j).upper ≡ (edge g k).upper → noted_value j me.0.picked ≡ None)
     → Allows (Holds g) slots id me (wait_place g (edge g k).lower) (λ x. bit_or x (2 ^ ((edge g k).letter - 1))) (ask_step (step slots (wait_place g (edge g k).lower) (2 ^ ((edge g k).letter - 1)) 0 none) me)
-ask_allowed g slots id me k in_k live lists undrawn unpicked s h deep at word =
+ask_allowed g slots id me k in_k live lists unpicked s h deep at word =
     let x = get_or s.words (wait_place g (edge g k).lower) 0 in
     let kn = h.stands.seats.knows id me.0 at live in
-    let is = held g h.rules s h.machine h.laws h.book h.stands id me.0 at live k in_k lists undrawn in
-    let none = none_picked g h.rules s h.machine h.laws h.book h.stands id me.0 at live k in_k lists undrawn unpicked in (
+    let is = held g h.rules s h.machine h.laws h.book h.stands id me.0 at live k in_k lists unpicked in
+    let none = none_picked g h.rules s h.machine h.laws h.book h.stands id me.0 at live k in_k lists unpicked in (
       ask_view g k x me.0,
       keeps,
       tt,
@@ -268,7 +268,7 @@ ask_allowed g slots id me k in_k live lists undrawn unpicked s h deep at word =
         rules = h.rules;
         laws = whole g.layout.edges (ask (edge g k).upper (edge g k).lower h.machine)
             (ask_keeps g.layout.edges h.machine me.0.worker (edge g k).upper (edge g k).lower (core g.layout.edges h.machine h.laws) is none (record { number = k; inside = in_k; lower = refl; upper = refl }));
-        stands = ask_stands g h.rules s h.machine h.laws h.book h.stands id me.0 at live k in_k lists undrawn;
+        stands = ask_stands g h.rules s h.machine h.laws h.book h.stands id me.0 at live k in_k lists unpicked;
       },
       subst (λ (p : PlanValue). (j : ℕ) → j < edges p → wait_place g (edge g k).lower ≡ wait_place p (edge p j).lower → 2 ^ ((edge g k).letter - 1) ≡ 2 ^ ((edge p j).letter - 1) → (let pair : Mine = (ask_view g k x me.0, me.1) in pair ≡ (ask_view p j x me.0, me.1)))
           (sym kn.plan) (λ j in_j place bit. ap (λ i. (ask_view g i x me.0, me.1)) (named g h.rules j k in_j in_k place bit)),

@@ -18,6 +18,9 @@ pub same_exponent : (j k : ℕ) → 2 ^ j ≡ 2 ^ k → j ≡ k
 same_exponent j k e = dite (ℕ_discrete j k) (λ q. q)
     (λ n. absurd (let one : 0 ≡ 1 = sym (bit_at-pow_other k j n) ∙ ap (λ x. bit_at x j) (sym e) ∙ bit_at-pow_same j in omega arith))
 
+pub nought_is_one : (x : ℕ) → x ≡ 0 → x ≡ 1 → ⊥
+nought_is_one x a b = omega arith
+
 -- the bits of the letters
 pub low_bits : (x i : ℕ) → i < LETTER_LIMIT → bit_at (x % 2 ^ LETTER_LIMIT) i ≡ bit_at x i
 low_bits x i inside = sym (bit_at_cat_low (x / 2 ^ LETTER_LIMIT) LETTER_LIMIT (x % 2 ^ LETTER_LIMIT) i inside) ∙ ap (λ y. bit_at y i) (div-add-mod' x (2 ^ LETTER_LIMIT))
@@ -27,6 +30,3 @@ low_bit x i bit = elim (dec_le LETTER_LIMIT i) [
   | yes h ↦ absurd (nought_is_one (bit_at (x % 2 ^ LETTER_LIMIT) i) (bit_at_above (x % 2 ^ LETTER_LIMIT) LETTER_LIMIT i (omega arith) h) bit)
   | no h ↦ let inside = lt_of_not-le h in (inside, sym (low_bits x i inside) ∙ bit)
 ]
-  where
-    nought_is_one : (x : ℕ) → x ≡ 0 → x ≡ 1 → ⊥
-    nought_is_one x a b = omega arith

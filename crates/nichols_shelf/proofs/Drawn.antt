@@ -1,6 +1,6 @@
 -- A draw keeps the rule, and leaves the state.
-use Rattle.std.proofs.Common.{◌≡◌, ◌≢◌, ℕ, ◌+◌, ◌-◌, ◌*◌, ◌<◌, Bool, true, false, true≢false, ◌&&◌, ◌||◌, List, [], ◌∷◌, get_or, set, refl, sym, ap, ◌∙◌, subst, ⊎_elim, eq-eqb, ne_eqb, arith, Option, length-set}
-use Rattle.std.specs.Prelude.{Some, None, is_some}
+use Rattle.std.proofs.Common.{◌≡◌, ◌≢◌, ℕ, ◌+◌, ◌-◌, ◌*◌, ◌<◌, Bool, true, false, true≢false, ◌&&◌, ◌||◌, List, [], ◌∷◌, get_or, set, refl, sym, ap, ◌∙◌, subst, ⊎_elim, eq-eqb, ne_eqb, arith, length-set}
+use Rattle.std.specs.Prelude.{None, is_some}
 use Rattle.std.proofs.lemmas.Bool.{false_from_ne_true, or_left}
 use mathlib.Core.Option.{some, none}
 use mathlib.Core.Logic.{dite}
@@ -14,7 +14,6 @@ use Rattle.nichols_core.specs.Machine.{Machine, put, is_held_by}
 use Rattle.nichols_core.specs.SixLaws.{SixLaws, AllPicked}
 use Rattle.nichols_core.proofs.Stages.{put_here, put_else, held_by}
 use Rattle.nichols_core.proofs.Conditions.{true_held}
-use Rattle.nichols_value.specs.declared.value.BlockValue.{BlockValue}
 use Rattle.nichols_shelf.specs.Plan.{PlanValue}
 use Rattle.nichols_shelf.specs.Lists.{is_in, noted_value}
 use Rattle.nichols_shelf.specs.Places.{blocks, edges, edge, edge_place}
@@ -24,6 +23,7 @@ use Rattle.nichols_shelf.specs.Slots.{edge_code, IsDrawn, Notes, SlotsStand}
 use Rattle.nichols_shelf.specs.Stands.{Tableau, Book, Stands, Holds}
 use Rattle.nichols_shelf.specs.Steps.{Mine, draw_step}
 use Rattle.nichols_shelf.specs.declared.view.View.{View}
+use Rattle.nichols_shelf.proofs.Listed.{value_of}
 use Rattle.nichols_shelf.proofs.StageTests.{not_held_by}
 use Rattle.nichols_shelf.proofs.Edges.{placed}
 use Rattle.nichols_shelf.proofs.EdgeWords.{code_here, code_else, words_same, seats_same}
@@ -59,10 +59,6 @@ module _ (g : PlanValue) (rules : IsLayout g.layout) (s : Tableau) (m : Machine)
 
   not_yet : book.drawn k ≡ false
   not_yet = false_from_ne_true (book.drawn k) (λ d. true≢false (sym ((λ i. d i && is_held i)) ∙ sym (notes.draws k in_k) ∙ ap (is_in k) undrawn))
-
-  value_of : (o : Option BlockValue) → is_some o ≡ true → (x : BlockValue) × (o ≡ Some x)
-  value_of (Some x) h = (x, refl)
-  value_of None h = absurd (true≢false (sym h))
 
   full : AllPicked g.layout.edges m low
   full j in_j up = let x = value_of (noted_value j v.picked) (all_picked j in_j up) in (notes.picked j x.0 x.1).1

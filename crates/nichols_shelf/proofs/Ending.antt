@@ -1,6 +1,7 @@
 -- The table as it ends.
-use Rattle.std.proofs.Common.{◌≡◌, ◌≢◌, ℕ, ◌<◌, Bool, true, false, true≢false, eqb, ◌&&◌, List, refl, sym, ap, ◌∙◌, subst, lt-ltb, eq-eqb, arith, Option}
+use Rattle.std.proofs.Common.{◌≡◌, ◌≢◌, ℕ, ◌<◌, Bool, true, false, true≢false, eqb, ◌&&◌, List, get_or, refl, sym, ap, ◌∙◌, subst, lt-ltb, eq-eqb, arith, Option}
 use Rattle.std.specs.Prelude.{nat_lt}
+use Rattle.std.specs.Int.{bit_at}
 use Rattle.std.proofs.lemmas.Bool.{false_from_ne_true, or_right, and_parts}
 use mathlib.Core.Option.{some}
 use mathlib.Core.Logic.{dite}
@@ -17,14 +18,18 @@ use Rattle.nichols_core.proofs.Conditions.{true_held, true_resumed}
 use Rattle.nichols_value.specs.declared.shared.Shared.{Shared}
 use Rattle.nichols_shelf.specs.Plan.{PlanValue, IsRightFor}
 use Rattle.nichols_shelf.specs.Lists.{is_in, times_in}
-use Rattle.nichols_shelf.specs.Places.{blocks, edge}
+use Rattle.nichols_shelf.specs.Places.{blocks, edge, wait_place}
 use Rattle.nichols_shelf.specs.Words.{done_bit}
 use Rattle.nichols_shelf.specs.Seats.{is_made_by, concerns, Knows, Lives}
 use Rattle.nichols_shelf.specs.Slots.{Notes}
 use Rattle.nichols_shelf.specs.Stands.{Tableau, Holds}
-use Rattle.nichols_shelf.specs.Settled.{HoldsNothing, ResumesNothing, OwesNothing, IsSettled, SayWhatIsMade}
+use Rattle.nichols_shelf.specs.Settled.{HoldsNothing, ResumesNothing, OwesNothing, IsSettled}
 use Rattle.nichols_shelf.specs.declared.view.View.{View}
 use Rattle.nichols_shelf.proofs.SeatsKept.{concerns_held, concerns_resumed, concerns_owed, concerns_made}
+
+-- the last bits of the wait words say which blocks the pass made
+abbrev pub SayWhatIsMade : PlanValue → List ℕ → View → Type 0
+SayWhatIsMade g words v = (b : ℕ) → b < blocks g → bit_at (get_or words (wait_place g b) 0) 63 ≡ times_in b v.made
 
 module _ (g : PlanValue) (s : Tableau) (h : Holds g s) (id : ℕ) (v : View) (at : get_elem? s.views id ≡ some v) (live : v.live ≡ true) (zeroth : v.worker ≡ 0) (all : v.joined ≡ v.passes) where
   abbrev m : Machine

@@ -1,8 +1,8 @@
 -- A join keeps the rule, and in the state worker 0 takes over what the other worker owed.
 use Rattle.std.proofs.Common.{◌≡◌, ◌≢◌, ◌⊎◌, ℕ, ◌+◌, Bool, true, false, true≢false, cond, eqb, ◌&&◌, ◌||◌, List, set, refl, sym, ap, ◌∙◌, subst, inl, inr, ⊎_elim, eq-eqb, ne_eqb, arith}
 use Rattle.std.specs.Prelude.{nat_lt}
-use Rattle.std.proofs.lemmas.Bool.{eqb-true, or_cases, or_right, or_left, and_parts}
-use Rattle.std.proofs.Math.Bool.{or-false}
+use Rattle.std.proofs.lemmas.Bool.{eqb-true, and_right, or_cases, or_right, or_left, and_parts}
+use Rattle.std.proofs.Math.Bool.{and-false, or-false}
 use mathlib.Core.Option.{some, some-injective}
 use mathlib.Core.Logic.{dite}
 use native.Mathlib.Decide.{ℕ_discrete}
@@ -149,13 +149,8 @@ module _ (g : PlanValue) (s : Tableau) (m : Machine) (book : Book) (st : Stands 
           let elsewhere : book.seat w ≢ o = λ e. ne (sym x.worker ∙ ap (λ (z : View). z.worker) (some-injective x.view u (sym x.there ∙ ap (get_elem? s.views) e ∙ there))) in
           record { view = y.view; there = set_else (set s.views id (joined_view v u)) o (book.seat w) spent_view elsewhere ∙ y.there; live = y.live; worker = y.worker }
 
-      dead_made : (p q : Bool) → (p && (q && false)) ≡ false
-      dead_made true true = refl
-      dead_made true false = refl
-      dead_made false q = refl
-
       unconcerned : (b : ℕ) → concerns g n maker u.worker b ≡ false
-      unconcerned b = (λ i. unheld b i || (unresumed b i || (owes_gone b i || (nat_lt b (blocks g) && (is_published (m.stage b) && made_gone b i))))) ∙ dead_made (nat_lt b (blocks g)) (is_published (m.stage b))
+      unconcerned b = (λ i. unheld b i || (unresumed b i || (owes_gone b i || (nat_lt b (blocks g) && (is_published (m.stage b) && made_gone b i))))) ∙ and_right (nat_lt b (blocks g)) (is_published (m.stage b) && false) (and-false (is_published (m.stage b)))
 
       concerned_after : (w b : ℕ) → concerns g n maker w b ≡ true → Lives after w (book.seat w)
       concerned_after w b h = dite (ℕ_discrete w u.worker)

@@ -1,7 +1,8 @@
 -- A laying keeps the rule, and changes the state as its event does.
-use Rattle.std.proofs.Common.{◌≡◌, ◌≢◌, ℕ, ◌+◌, ◌-◌, ◌*◌, ◌<◌, Bool, true, false, true≢false, eqb, ◌&&◌, List, ◌∷◌, get_or, set, refl, sym, ap, ◌∙◌, subst, ⊎_elim, arith, Option, length-set}
-use Rattle.std.specs.Prelude.{Some, None, is_some, nat_lt}
-use Rattle.std.proofs.lemmas.Bool.{false_from_ne_true, or_cases, or_left, and_parts}
+use Rattle.std.proofs.Common.{◌≡◌, ◌≢◌, ℕ, ◌+◌, ◌-◌, ◌*◌, ◌<◌, Bool, true, false, true≢false, ◌&&◌, List, ◌∷◌, get_or, set, refl, sym, ap, ◌∙◌, subst, ⊎_elim, arith, Option, length-set}
+use Rattle.std.specs.Prelude.{Some, is_some}
+use Rattle.std.proofs.lemmas.Bool.{false_from_ne_true, or_left, and_parts}
+use Rattle.std.proofs.lemmas.Option.{same_Some}
 use mathlib.Core.Option as table
 use mathlib.Core.Option.{some, none}
 use mathlib.Core.Logic.{dite}
@@ -11,7 +12,7 @@ use Rattle.atomic_table.specs.Table.{gives, put_back, rest, step, Allows}
 use Rattle.atomic_table.proofs.Lists.{at_set, set_here, set_else}
 use Rattle.nichols_core.specs.Layout.{IsLayout}
 use Rattle.nichols_core.specs.declared.stage.Stage.TheVariants.{Held}
-use Rattle.nichols_core.specs.Machine.{Machine, put, is_held_by, is_published, lay}
+use Rattle.nichols_core.specs.Machine.{Machine, put, is_held_by, lay}
 use Rattle.nichols_core.specs.SixLaws.{SixLaws, AllPicked}
 use Rattle.nichols_core.proofs.Stages.{put_is, put_here, put_else, held_by}
 use Rattle.nichols_core.proofs.LawsKept.{core, whole, lay_keeps}
@@ -28,11 +29,11 @@ use Rattle.nichols_shelf.specs.Slots.{edge_code, HasValue, IsDrawn, Notes, Slots
 use Rattle.nichols_shelf.specs.Stands.{Tableau, Book, Stands, Holds}
 use Rattle.nichols_shelf.specs.Steps.{Mine, value_out, lay_step}
 use Rattle.nichols_shelf.specs.declared.view.View.{View}
-use Rattle.nichols_shelf.proofs.Listed.{gone, others_stay, noted_same, noted_other}
+use Rattle.nichols_shelf.proofs.Listed.{value_of, gone, others_stay, noted_same, noted_other}
 use Rattle.nichols_shelf.proofs.StageTests.{not_held_by}
 use Rattle.nichols_shelf.proofs.Edges.{placed}
 use Rattle.nichols_shelf.proofs.EdgeWords.{code_here, code_else, words_same, seats_same}
-use Rattle.nichols_shelf.proofs.SeatsKept.{other_worker}
+use Rattle.nichols_shelf.proofs.SeatsKept.{untended, other_worker}
 
 module _ (g : PlanValue) (rules : IsLayout g.layout) (s : Tableau) (m : Machine) (laws : SixLaws g.layout.edges m) (book : Book) (st : Stands g s m book)
     (id : ℕ) (v : View) (at : get_elem? s.views id ≡ some v) (live : v.live ≡ true) (k : ℕ) (in_k : k < edges g) (lists : is_in (edge g k).lower v.held ≡ true)
@@ -86,10 +87,6 @@ module _ (g : PlanValue) (rules : IsLayout g.layout) (s : Tableau) (m : Machine)
   unpicked : m.picked k ≡ false
   unpicked = false_from_ne_true (m.picked k) (λ p. true≢false (sym (laws.picked k in_k p).0 ∙ away.unlaid))
 
-  value_of : (o : Option BlockValue) → is_some o ≡ true → (y : BlockValue) × (o ≡ Some y)
-  value_of (Some y) h = (y, refl)
-  value_of None h = absurd (true≢false (sym h))
-
   -- the value of a block with a laid edge stays
   value_stays : (j : ℕ) → j < edges g → m.laid j ≡ true → value (edge g j).lower ≡ book.value (edge g j).lower
   value_stays j in_j h = dite (ℕ_discrete (edge g j).lower low)
@@ -123,7 +120,7 @@ module _ (g : PlanValue) (rules : IsLayout g.layout) (s : Tableau) (m : Machine)
     picked = λ j y h. let p = notes.picked j y h in (p.0, p.1, p.2 ∙ sym (value_stays j p.0 (laws.picked j p.0 p.1).0));
     picks = notes.picks;
     laid = λ j y h. dite (ℕ_discrete j k)
-        (λ q. let here : x ≡ y = some_same x y (sym (noted_same k x v.laid) ∙ (ap (λ z. noted_value z ((k, x) ∷ v.laid)) (sym q) ∙ h)) in
+        (λ q. let here : x ≡ y = same_Some x y (sym (noted_same k x v.laid) ∙ (ap (λ z. noted_value z ((k, x) ∷ v.laid)) (sym q) ∙ h)) in
         (subst (λ z. z < edges g) (sym q) in_k, put_here m.laid k true j q, sym here ∙ (sym value_here ∙ ap (λ z. value (edge g z).lower) (sym q))))
         (λ ne. let p = notes.laid j y (sym (noted_other j k x v.laid ne) ∙ h) in (p.0, laid_more j p.1, p.2 ∙ sym (value_stays j p.0 p.1)));
     lays = λ j in_j t h. dite (ℕ_discrete j k)
@@ -133,17 +130,6 @@ module _ (g : PlanValue) (rules : IsLayout g.layout) (s : Tableau) (m : Machine)
         (λ q. subst (λ z. is_in z (without k v.drawn) ≡ (drawn z && is_held_by v.worker (m.stage (edge g z).lower))) (sym q) (gone k v.drawn ∙ ap (λ t. t && is_held_by v.worker (m.stage low)) (sym (put_here book.drawn k false k refl))))
         (λ ne. others_stay j k v.drawn ne ∙ (notes.draws j in_j ∙ ap (λ t. t && is_held_by v.worker (m.stage (edge g j).lower)) (sym (put_else book.drawn k false j ne))));
   }
-    where
-      some_same : (a b : BlockValue) → Some a ≡ Some b → a ≡ b
-      some_same a b p = cc
-
-  -- no other worker tends the block that v's holds
-  untended : (u : ℕ) → u ≢ v.worker → tends g m book.maker u low ≡ true → ⊥
-  untended u ne t = ⊎_elim
-      (λ q. true≢false (sym q ∙ not_held_by v.worker u (m.stage low) held ne))
-      (λ q. let p = (and_parts (is_published (m.stage low)) (eqb (book.maker low) u) (and_parts (nat_lt low (blocks g)) (is_published (m.stage low) && eqb (book.maker low) u) q).1).0 in
-      true≢false (sym p ∙ ap is_published held))
-      (or_cases (is_held_by u (m.stage low)) (is_made_by g m book.maker u low) t)
 
   slots_after : SlotsStand g (set s.words (edge_place g k) 2) homes (set s.views id v') n book.maker value drawn
   slots_after = record {
@@ -169,7 +155,7 @@ module _ (g : PlanValue) (rules : IsLayout g.layout) (s : Tableau) (m : Machine)
         (λ (t : (j ≢ id) × (get_elem? s.views j ≡ some u)).
         let ne = other_worker g s.views m m book.seat book.count book.first book.maker book.maker st.seats id v v at live j u t.0 t.1 alive in
         let before = st.slots.notes j u t.1 alive in
-        notes_of u (before.draws k in_k ∙ (ap (λ y. y && is_held_by u.worker (m.stage low)) was_drawn ∙ not_held_by v.worker u.worker (m.stage low) held ne)) (untended u.worker ne) before)
+        notes_of u (before.draws k in_k ∙ (ap (λ y. y && is_held_by u.worker (m.stage low)) was_drawn ∙ not_held_by v.worker u.worker (m.stage low) held ne)) (untended g m book.maker v.worker u.worker low held ne) before)
         (at_set s.views id j v' u here);
   }
 

@@ -29,3 +29,4 @@ pub mod ShelfLaws
 pub mod Mirrored
 pub mod Marking
 pub mod Alone
+pub mod Stretches

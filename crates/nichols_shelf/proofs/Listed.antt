@@ -1,8 +1,9 @@
 -- Lists of blocks, and of edges with values.
-use Rattle.std.proofs.Common.{◌≡◌, ◌≢◌, ◌⊎◌, ℕ, zero, suc, ◌+◌, ◌<◌, Bool, true, false, true≢false, cond, eqb, ltb, lt-ltb, ◌||◌, List, [], ◌∷◌, ◌++◌, length, get_or, refl, sym, ap, ◌∙◌, inl, inr, ⊎_elim, eq-eqb, ne_eqb, arith, Some}
+use Rattle.std.proofs.Common.{◌≡◌, ◌≢◌, ◌⊎◌, ℕ, zero, suc, ◌+◌, ◌<◌, Bool, true, false, true≢false, cond, eqb, ltb, lt-ltb, ◌||◌, List, [], ◌∷◌, ◌++◌, length, get_or, refl, sym, ap, ◌∙◌, inl, inr, ⊎_elim, eq-eqb, ne_eqb, arith, Option, Some, None}
 use Rattle.std.specs.Prelude.{is_some}
 use Rattle.std.proofs.lemmas.Bool.{ltb-true, false_from_ne_true}
-use Rattle.std.proofs.Math.Bool.{or_assoc}
+use Rattle.std.proofs.lemmas.List.Folds.{list_any-append}
+use Rattle.std.proofs.lemmas.List.Sums.{sum_by-append}
 use mathlib.Core.Option.{some, some-injective, some-ne-none}
 use mathlib.Core.Logic.{dite}
 use native.Mathlib.Decide.{ℕ_discrete}
@@ -24,8 +25,7 @@ pub others_stay : (c b : ℕ) (xs : List ℕ) → c ≢ b → is_in c (without b
 others_stay c b xs n = is_in-without c b xs ∙ ap (λ t. cond t false (is_in c xs)) (ne_eqb c b n)
 
 pub is_in-append : (b : ℕ) (xs ys : List ℕ) → is_in b (xs ++ ys) ≡ (is_in b xs || is_in b ys)
-is_in-append b [] ys = refl
-is_in-append b (x ∷ xs) ys = ap (λ t. eqb b x || t) (is_in-append b xs ys) ∙ sym (or_assoc (eqb b x) (is_in b xs) (is_in b ys))
+is_in-append b xs ys = list_any-append (λ x. eqb b x) xs ys
 
 pub is_in-below : (b n : ℕ) → is_in b (below n) ≡ ltb b n
 is_in-below b zero = sym (false_from_ne_true (ltb b 0) (λ e. let h = ltb-true b 0 e in omega arith))
@@ -38,14 +38,18 @@ is_in-below b (suc n) = dite (ℕ_discrete b n)
 
 -- how often a number stands in two lists, and at the end of one
 pub times_in-append : (b : ℕ) (xs ys : List ℕ) → times_in b (xs ++ ys) ≡ times_in b xs + times_in b ys
-times_in-append b [] ys = omega arith
-times_in-append b (x ∷ xs) ys = let r = times_in-append b xs ys in omega arith
+times_in-append b xs ys = sum_by-append (λ x. cond (eqb b x) 1 0) xs ys
 
 pub times_in-snoc_same : (b : ℕ) (xs : List ℕ) → times_in b (xs ++ b ∷ []) ≡ times_in b xs + 1
-times_in-snoc_same b xs = times_in-append b xs (b ∷ []) ∙ ap (λ t. times_in b xs + (cond t 1 0 + 0)) (eq-eqb b b refl)
+times_in-snoc_same b xs = times_in-append b xs (b ∷ []) ∙ ap (λ t. times_in b xs + (0 + cond t 1 0)) (eq-eqb b b refl)
 
 pub times_in-snoc_other : (c b : ℕ) (xs : List ℕ) → c ≢ b → times_in c (xs ++ b ∷ []) ≡ times_in c xs
-times_in-snoc_other c b xs n = times_in-append c xs (b ∷ []) ∙ (ap (λ t. times_in c xs + (cond t 1 0 + 0)) (ne_eqb c b n) ∙ omega arith)
+times_in-snoc_other c b xs n = times_in-append c xs (b ∷ []) ∙ (ap (λ t. times_in c xs + (0 + cond t 1 0)) (ne_eqb c b n) ∙ omega arith)
+
+-- the value, where there is one
+pub value_of : (o : Option BlockValue) → is_some o ≡ true → (x : BlockValue) × (o ≡ Some x)
+value_of (Some x) h = (x, refl)
+value_of None h = absurd (true≢false (sym h))
 
 -- what is noted of an edge at the head of a list, and in two lists
 pub noted_same : (k : ℕ) (x : BlockValue) (xs : List (ℕ × BlockValue)) → noted_value k ((k, x) ∷ xs) ≡ Some x

@@ -3,6 +3,7 @@ use Rattle.std.proofs.Common.{◌≡◌, ◌⊎◌, ℕ, ◌<◌, Bool, true, fa
 use Rattle.std.specs.Prelude.{is_some}
 use Rattle.std.proofs.lemmas.Bool.{or_right, or_left}
 use Rattle.std.proofs.lemmas.List.{get_or_default}
+use Rattle.std.proofs.lemmas.Option.{same_Some}
 use mathlib.Core.Logic.{dite}
 use native.Mathlib.Decide.{ℕ_discrete}
 use Rattle.nichols_core.specs.Layout.{LayoutValue, IsLayout, edge_at, edge_into, edge_out}
@@ -119,12 +120,9 @@ module _ (h r k p l : List Bool) (v : View) (m : Mirrors h r k p l v) where
         (λ e. ap (λ t. cond t true (get_or l j false)) (eq-eqb j n e) ∙ sym (ap (λ z. is_some (noted_value z ((n, Starved) ∷ v.laid))) e ∙ ap is_some (noted_same n Starved v.laid)))
         (λ ne. ap (λ t. cond t true (get_or l j false)) (ne_eqb j n ne) ∙ (m.lays j ∙ sym (ap is_some (noted_other j n Starved v.laid ne))));
     starved = λ j x e. dite (ℕ_discrete j n)
-        (λ q. same Starved x (sym (noted_same n Starved v.laid) ∙ (ap (λ z. noted_value z ((n, Starved) ∷ v.laid)) (sym q) ∙ e)))
+        (λ q. sym (same_Some Starved x (sym (noted_same n Starved v.laid) ∙ (ap (λ z. noted_value z ((n, Starved) ∷ v.laid)) (sym q) ∙ e))))
         (λ ne. m.starved j x (sym (noted_other j n Starved v.laid ne) ∙ e));
   }
-    where
-      same : (x y : BlockValue) → Some x ≡ Some y → y ≡ x
-      same x y e = cc
 
   pub mirror_publish : (b found : ℕ) (r' : List Bool) → b < blocks v.plan → length r' ≡ blocks v.plan → ((c : ℕ) → get_or r' c false ≡ (get_or r c false || is_in c (askers v.plan.layout.edges b found)))
       → Mirrors (set h b false) r' k p l (publish_view v.plan b found v)

@@ -1,7 +1,8 @@
 -- A pick keeps the rule, and changes the state as its event does.
-use Rattle.std.proofs.Common.{◌≡◌, ◌≢◌, ℕ, ◌+◌, ◌-◌, ◌*◌, ◌<◌, true, false, true≢false, eqb, ◌&&◌, ◌∷◌, get_or, set, refl, sym, ap, ◌∙◌, subst, ⊎_elim, arith, length-set}
-use Rattle.std.specs.Prelude.{Some, None, is_some, nat_lt}
-use Rattle.std.proofs.lemmas.Bool.{false_from_ne_true, or_cases, or_left, and_parts}
+use Rattle.std.proofs.Common.{◌≡◌, ◌≢◌, ℕ, ◌+◌, ◌-◌, ◌*◌, ◌<◌, true, false, true≢false, ◌∷◌, get_or, set, refl, sym, ap, ◌∙◌, subst, ⊎_elim, arith, length-set}
+use Rattle.std.specs.Prelude.{Some, None, is_some}
+use Rattle.std.proofs.lemmas.Bool.{false_from_ne_true, or_left}
+use Rattle.std.proofs.lemmas.Option.{same_Some}
 use mathlib.Core.Option.{some, none, some-injective, some-ne-none}
 use mathlib.Core.Logic.{dite}
 use native.Mathlib.Decide.{ℕ_discrete}
@@ -10,14 +11,13 @@ use Rattle.atomic_table.specs.Table.{takes, step, Allows}
 use Rattle.atomic_table.proofs.Lists.{at_set, set_here, set_else}
 use Rattle.nichols_core.specs.Layout.{IsLayout}
 use Rattle.nichols_core.specs.declared.stage.Stage.TheVariants.{Held, Published}
-use Rattle.nichols_core.specs.Machine.{Machine, is_held_by, is_published, pick}
+use Rattle.nichols_core.specs.Machine.{Machine, is_held_by, pick}
 use Rattle.nichols_core.specs.SixLaws.{SixLaws}
 use Rattle.nichols_core.proofs.Stages.{put_is, put_here, put_else, held_by}
 use Rattle.nichols_core.proofs.LawsKept.{core, whole, pick_keeps}
 use Rattle.nichols_core.proofs.Conditions.{true_held}
 use Rattle.nichols_value.specs.Worth.{worth}
 use Rattle.nichols_value.specs.declared.shared.Shared.{Shared}
-use Rattle.nichols_value.specs.declared.value.BlockValue.{BlockValue}
 use Rattle.nichols_shelf.specs.Plan.{PlanValue, IsRightFor}
 use Rattle.nichols_shelf.specs.Lists.{is_in, noted_value}
 use Rattle.nichols_shelf.specs.Places.{blocks, edges, edge, edge_place}
@@ -28,10 +28,9 @@ use Rattle.nichols_shelf.specs.Stands.{Tableau, Book, Stands, Holds}
 use Rattle.nichols_shelf.specs.Steps.{Mine, pick_step}
 use Rattle.nichols_shelf.specs.declared.view.View.{View}
 use Rattle.nichols_shelf.proofs.Listed.{noted_same, noted_other}
-use Rattle.nichols_shelf.proofs.StageTests.{not_held_by}
 use Rattle.nichols_shelf.proofs.Edges.{placed}
 use Rattle.nichols_shelf.proofs.EdgeWords.{code_here, code_else, words_same, seats_same}
-use Rattle.nichols_shelf.proofs.SeatsKept.{other_worker}
+use Rattle.nichols_shelf.proofs.SeatsKept.{untended, other_worker}
 
 module _ (g : PlanValue) (rules : IsLayout g.layout) (s : Tableau) (m : Machine) (laws : SixLaws g.layout.edges m) (book : Book) (st : Stands g s m book)
     (id : ℕ) (v : View) (at : get_elem? s.views id ≡ some v) (live : v.live ≡ true) (k : ℕ) (in_k : k < edges g) (lists : is_in (edge g k).upper v.held ≡ true)
@@ -88,7 +87,7 @@ module _ (g : PlanValue) (rules : IsLayout g.layout) (s : Tableau) (m : Machine)
   my_notes : Notes g n book.maker book.value book.drawn v'
   my_notes = record {
     picked = λ j y h. dite (ℕ_discrete j k)
-        (λ q. let here : worth shared ≡ y = some_same (worth shared) y (sym (noted_same k (worth shared) v.picked) ∙ (ap (λ z. noted_value z ((k, worth shared) ∷ v.picked)) (sym q) ∙ h)) in
+        (λ q. let here : worth shared ≡ y = same_Some (worth shared) y (sym (noted_same k (worth shared) v.picked) ∙ (ap (λ z. noted_value z ((k, worth shared) ∷ v.picked)) (sym q) ∙ h)) in
         (subst (λ z. z < edges g) (sym q) in_k, put_here m.picked k true j q, sym here ∙ at_home.worth_is ∙ ap (λ z. book.value (edge g z).lower) (sym q)))
         (λ ne. let p = notes.picked j y (sym (noted_other j k (worth shared) v.picked ne) ∙ h) in (p.0, more j p.1, p.2));
     picks = λ j in_j t h. dite (ℕ_discrete j k)
@@ -98,16 +97,6 @@ module _ (g : PlanValue) (rules : IsLayout g.layout) (s : Tableau) (m : Machine)
     lays = notes.lays;
     draws = notes.draws;
   }
-    where
-      some_same : (a b : BlockValue) → Some a ≡ Some b → a ≡ b
-      some_same a b p = cc
-
-  untended : (u : ℕ) → u ≢ v.worker → tends g m book.maker u up ≡ true → ⊥
-  untended u ne t = ⊎_elim
-      (λ q. true≢false (sym q ∙ not_held_by v.worker u (m.stage up) held ne))
-      (λ q. let p = (and_parts (is_published (m.stage up)) (eqb (book.maker up) u) (and_parts (nat_lt up (blocks g)) (is_published (m.stage up) && eqb (book.maker up) u) q).1).0 in
-      true≢false (sym p ∙ ap is_published held))
-      (or_cases (is_held_by u (m.stage up)) (is_made_by g m book.maker u up) t)
 
   notes_of : (u : View) → (tends g m book.maker u.worker up ≡ true → ⊥) → Notes g m book.maker book.value book.drawn u → Notes g n book.maker book.value book.drawn u
   notes_of u never r = record {
@@ -143,7 +132,7 @@ module _ (g : PlanValue) (rules : IsLayout g.layout) (s : Tableau) (m : Machine)
         (λ (t : (j ≡ id) × (v' ≡ u)). subst (Notes g n book.maker book.value book.drawn) t.1 my_notes)
         (λ (t : (j ≢ id) × (get_elem? s.views j ≡ some u)).
         let ne = other_worker g s.views m m book.seat book.count book.first book.maker book.maker st.seats id v v at live j u t.0 t.1 alive in
-        notes_of u (untended u.worker ne) (st.slots.notes j u t.1 alive))
+        notes_of u (untended g m book.maker v.worker u.worker up held ne) (st.slots.notes j u t.1 alive))
         (at_set s.views id j v' u here);
   }
 

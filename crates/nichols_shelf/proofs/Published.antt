@@ -1,8 +1,9 @@
 -- A publication keeps the rule, and changes the state as its event does.
-use Rattle.std.proofs.Common.{not, ◌≡◌, ◌≢◌, ℕ, ◌+◌, ◌-◌, ◌<◌, ◌^◌, Bool, true, false, true≢false, cond, eqb, ◌&&◌, ◌||◌, List, [], ◌∷◌, ◌++◌, length, get_or, set, refl, sym, ap, ◌∙◌, subst, inl, ⊎_elim, eq-eqb, ne_eqb, lt-ltb, arith, Option, length-set, get_or-set_other, get_or-set_same}
+use Rattle.std.proofs.Common.{not, ◌≡◌, ◌≢◌, ℕ, ◌+◌, ◌-◌, ◌<◌, ◌^◌, true, false, true≢false, cond, eqb, ◌&&◌, ◌||◌, List, [], ◌∷◌, ◌++◌, length, get_or, set, refl, sym, ap, ◌∙◌, subst, inl, ⊎_elim, eq-eqb, ne_eqb, lt-ltb, arith, Option, length-set, get_or-set_other, get_or-set_same}
 use Rattle.std.specs.Int.{bit_at}
-use Rattle.std.specs.Prelude.{bit_or, nat_lt, Some, None, is_some}
-use Rattle.std.proofs.lemmas.Bool.{or_cases, or_right, or_left}
+use Rattle.std.specs.Prelude.{bit_or, nat_lt, Some, is_some}
+use Rattle.std.proofs.lemmas.Bool.{and_right, or_cases, or_right, or_left}
+use Rattle.std.proofs.Math.Bool.{and-false}
 use mathlib.Core.Option as table
 use mathlib.Core.Option.{some, none, some-injective}
 use mathlib.Core.Logic.{dite}
@@ -20,7 +21,6 @@ use Rattle.nichols_core.proofs.Stages.{put_is, put_here, put_else, held_by, resu
 use Rattle.nichols_core.proofs.LawsKept.{core, whole, publish_keeps}
 use Rattle.nichols_core.proofs.Conditions.{true_held}
 use Rattle.nichols_value.specs.declared.shared.Shared.{Shared}
-use Rattle.nichols_value.specs.declared.value.BlockValue.{BlockValue}
 use Rattle.nichols_shelf.specs.Plan.{PlanValue}
 use Rattle.nichols_shelf.specs.Lists.{is_in, times_in, without, noted_value}
 use Rattle.nichols_shelf.specs.Places.{blocks, edges, edge, desk_place, wait_place, edge_place}
@@ -31,7 +31,7 @@ use Rattle.nichols_shelf.specs.Stands.{Tableau, Book, Stands, Holds}
 use Rattle.nichols_shelf.specs.Steps.{Mine, publish_step}
 use Rattle.nichols_shelf.specs.Out.{are_picked}
 use Rattle.nichols_shelf.specs.declared.view.View.{View}
-use Rattle.nichols_shelf.proofs.Listed.{gone, others_stay, is_in-append, times_in-snoc_same, times_in-snoc_other}
+use Rattle.nichols_shelf.proofs.Listed.{value_of, gone, others_stay, is_in-append, times_in-snoc_same, times_in-snoc_other}
 use Rattle.nichols_shelf.proofs.StageTests.{not_held_by, held_published, resumed_theirs, resumed_mine, published_published, desk_published, done_published, parked_on}
 use Rattle.nichols_shelf.proofs.Bits.{bit_same, bit_other}
 use Rattle.nichols_shelf.proofs.Askers.{asks, asked_for}
@@ -39,16 +39,6 @@ use Rattle.nichols_shelf.proofs.Picks.{one_picked}
 use Rattle.nichols_shelf.proofs.Gives.{give_all, none_carried, give_valid, give_depth, give_else, IsApart}
 use Rattle.nichols_shelf.proofs.SeatsKept.{Elsewhere, seats_step}
 use Rattle.nichols_shelf.proofs.SlotsKept.{SameEdges, slots_kept}
-
--- where a test fails the rest says nothing
-nothing_made : (p r : Bool) → (p && (false && r)) ≡ false
-nothing_made true r = refl
-nothing_made false r = refl
-
-others_made : (p q : Bool) → (p && (q && false)) ≡ false
-others_made true true = refl
-others_made true false = refl
-others_made false q = refl
 
 module _ (g : PlanValue) (s : Tableau) (m : Machine) (laws : SixLaws g.layout.edges m) (book : Book) (st : Stands g s m book)
     (id : ℕ) (v : View) (at : get_elem? s.views id ≡ some v) (live : v.live ≡ true) (b : ℕ) (inside : b < blocks g) (lists : is_in b v.held ≡ true)
@@ -78,10 +68,6 @@ module _ (g : PlanValue) (s : Tableau) (m : Machine) (laws : SixLaws g.layout.ed
 
   pub held : m.stage b ≡ Held v.worker
   held = held_by v.worker (m.stage b) (sym ((st.seats.knows id v at live).held b) ∙ lists)
-
-  value_of : (o : Option BlockValue) → is_some o ≡ true → (x : BlockValue) × (o ≡ Some x)
-  value_of (Some x) h = (x, refl)
-  value_of None h = absurd (true≢false (sym h))
 
   pub full : AllPicked g.layout.edges m b
   full k in_k up = let x = value_of (noted_value k v.picked) (all_picked k in_k up) in ((st.slots.notes id v at live).picked k x.0 x.1).1
@@ -136,7 +122,7 @@ module _ (g : PlanValue) (s : Tableau) (m : Machine) (laws : SixLaws g.layout.ed
   made_here = (λ j. lt-ltb b (blocks g) inside j && (is_published (put_here (λ c. stage_after_publication v.worker b (m.stage c)) b Published b refl j) && eqb (put_here book.maker b v.worker b refl j) v.worker)) ∙ eq-eqb v.worker v.worker refl
 
   made_before : (u : ℕ) → is_made_by g m book.maker u b ≡ false
-  made_before u = ap (λ t. nat_lt b (blocks g) && (is_published t && eqb (book.maker b) u)) held ∙ nothing_made (nat_lt b (blocks g)) (eqb (book.maker b) u)
+  made_before u = ap (λ t. nat_lt b (blocks g) && (is_published t && eqb (book.maker b) u)) held ∙ and-false (nat_lt b (blocks g))
 
   made_there : (u c : ℕ) → c ≢ b → is_made_by g n maker u c ≡ is_made_by g m book.maker u c
   made_there u c ne = (λ j. nat_lt c (blocks g) && (is_published (put_else (λ d. stage_after_publication v.worker b (m.stage d)) b Published c ne j) && eqb (put_else book.maker b v.worker c ne j) u))
@@ -144,7 +130,7 @@ module _ (g : PlanValue) (s : Tableau) (m : Machine) (laws : SixLaws g.layout.ed
 
   made_theirs : (u c : ℕ) → u ≢ v.worker → is_made_by g n maker u c ≡ is_made_by g m book.maker u c
   made_theirs u c ne = dite (ℕ_discrete c b)
-      (λ q. ap (λ t. nat_lt c (blocks g) && (is_published (n.stage c) && t)) (ap (λ x. eqb x u) (put_here book.maker b v.worker c q) ∙ ne_eqb v.worker u (λ z. ne (sym z))) ∙ (others_made (nat_lt c (blocks g)) (is_published (n.stage c)) ∙ sym (ap (is_made_by g m book.maker u) q ∙ made_before u)))
+      (λ q. ap (λ t. nat_lt c (blocks g) && (is_published (n.stage c) && t)) (ap (λ x. eqb x u) (put_here book.maker b v.worker c q) ∙ ne_eqb v.worker u (λ z. ne (sym z))) ∙ (and_right (nat_lt c (blocks g)) (is_published (n.stage c) && false) (and-false (is_published (n.stage c))) ∙ sym (ap (is_made_by g m book.maker u) q ∙ made_before u)))
       (λ other. made_there u c other)
 
   still_published : (c : ℕ) → m.stage c ≡ Published → n.stage c ≡ Published

@@ -1,21 +1,22 @@
 -- What a step of one worker leaves to the seats of the others.
-use Rattle.std.proofs.Common.{◌≡◌, ◌≢◌, ℕ, ◌<◌, ◌≤◌, true, ◌||◌, List, set, sym, ap, ◌∙◌, subst, ⊎_elim, Bool, eqb, ◌&&◌}
+use Rattle.std.proofs.Common.{◌≡◌, ◌≢◌, ℕ, ◌<◌, ◌≤◌, true, true≢false, ◌||◌, List, set, sym, ap, ◌∙◌, subst, ⊎_elim, Bool, eqb, ◌&&◌}
 use Rattle.std.specs.Prelude.{nat_lt}
-use Rattle.std.proofs.lemmas.Bool.{or_left, or_right}
+use Rattle.std.proofs.lemmas.Bool.{or_cases, or_left, or_right, and_parts}
 use mathlib.Core.Option.{some, some-injective}
 use mathlib.Core.Logic.{dite}
 use native.Mathlib.Decide.{ℕ_discrete}
 use lib.ListN.{get_elem?}
 use Rattle.atomic_table.proofs.Lists.{at_set, set_here, set_else}
-use Rattle.nichols_core.specs.declared.stage.Stage.TheVariants.{Published}
+use Rattle.nichols_core.specs.declared.stage.Stage.TheVariants.{Held, Published}
 use Rattle.nichols_core.specs.Machine.{Machine, is_held_by, is_resumed_by, is_published}
 use Rattle.nichols_core.specs.Runs.{one_if}
 use Rattle.nichols_core.proofs.Stages.{published}
 use Rattle.nichols_shelf.specs.Plan.{PlanValue}
-use Rattle.nichols_shelf.specs.Seats.{is_made_by, Knows, IsNumbered, Lives, SeatsStand, concerns}
+use Rattle.nichols_shelf.specs.Seats.{is_made_by, tends, Knows, IsNumbered, Lives, SeatsStand, concerns}
 use Rattle.nichols_shelf.specs.declared.view.View.{View}
 use Rattle.nichols_shelf.specs.Places.{blocks}
 use Rattle.nichols_shelf.proofs.Listed.{inside_of}
+use Rattle.nichols_shelf.proofs.StageTests.{not_held_by}
 
 -- who holds a block, has resumed it, owes it or made it is about it
 module _ (g : PlanValue) (m : Machine) (maker : ℕ → ℕ) (w b : ℕ) where
@@ -39,6 +40,14 @@ module _ (g : PlanValue) (m : Machine) (maker : ℕ → ℕ) (w b : ℕ) where
 
   pub concerns_made : made_it ≡ true → concerns g m maker w b ≡ true
   concerns_made e = or_right holds_it (resumes_it || (m.owes w b || made_it)) (or_right resumes_it (m.owes w b || made_it) (or_right (m.owes w b) made_it e))
+
+-- no other worker tends a block that one holds
+pub untended : (g : PlanValue) (m : Machine) (maker : ℕ → ℕ) (w u b : ℕ) → m.stage b ≡ Held w → u ≢ w → tends g m maker u b ≡ true → ⊥
+untended g m maker w u b held ne t = ⊎_elim
+    (λ q. true≢false (sym q ∙ not_held_by w u (m.stage b) held ne))
+    (λ q. let p = (and_parts (is_published (m.stage b)) (eqb (maker b) u) (and_parts (nat_lt b (blocks g)) (is_published (m.stage b) && eqb (maker b) u) q).1).0 in
+    true≢false (sym p ∙ ap is_published held))
+    (or_cases (is_held_by u (m.stage b)) (is_made_by g m maker u b) t)
 
 -- a step that publishes nothing
 module _ (g : PlanValue) (m n : Machine) (maker : ℕ → ℕ) (same : (c : ℕ) → is_published (n.stage c) ≡ is_published (m.stage c)) where

@@ -1,10 +1,14 @@
 -- The laws of the shelf.
-use Rattle.std.proofs.Common.{◌≡◌, ◌≢◌, ℕ, ◌-◌, ◌^◌, ◌<◌, Bool, true, false, eqb, ◌&&◌, [], get_or, set, refl, sym, ap, ◌∙◌, subst, eq-eqb, ne_eqb, lt-ltb, Some, None}
+use Rattle.std.proofs.Common.{◌≡◌, ◌≢◌, ℕ, ◌-◌, ◌^◌, ◌<◌, Bool, true, false, eqb, ◌&&◌, List, [], ◌∷◌, Option, get_or, set, refl, sym, ap, ◌∙◌, subst, eq-eqb, ne_eqb, lt-ltb, Some, None}
 use Rattle.std.specs.Prelude.{is_some, nat_lt, bit_or}
-use Rattle.std.proofs.lemmas.Bool.{ltb-true, and_parts}
+use Rattle.std.proofs.lemmas.Bool.{ltb-true, and_parts, and_right}
+use Rattle.std.proofs.lemmas.Option.{same_Some, none-some}
+use Rattle.std.proofs.Math.Bool.{and-false}
+use mathlib.Core.Option as table
 use mathlib.Core.Option.{some, none, some-injective, some-ne-none}
 use lib.ListN.{get_elem?}
-use Rattle.nichols_core.specs.Machine.{ask, is_published}
+use Rattle.atomic_table.specs.Table.{homes_after}
+use Rattle.nichols_core.specs.Machine.{ask, publish, is_published}
 use Rattle.nichols_core.specs.SixLaws.{NonePicked}
 use Rattle.nichols_core.specs.Runs.{one_if}
 use Rattle.nichols_core.proofs.Conditions.{after_ask, after_pick, after_lay, after_publish, after_release}
@@ -18,11 +22,13 @@ use Rattle.nichols_shelf.specs.Places.{blocks, edges, edge, desk_place, wait_pla
 use Rattle.nichols_shelf.specs.Views.{lay_view, release_view, ask_view, publish_view, pick_view}
 use Rattle.nichols_shelf.specs.Words.{done_bit}
 use Rattle.nichols_shelf.specs.Seats.{is_made_by}
+use Rattle.nichols_shelf.specs.Out.{sent_home}
 use Rattle.nichols_shelf.specs.Stands.{Tableau, Stands, Holds}
 use Rattle.nichols_shelf.specs.Laws.{StandsFor, stepped_to, IsShown, at_home, as_picked, as_laid, ATakeIsItsEvent, AReleaseIsItsEvent, AnAskIsItsEvent, APublicationIsItsEvent, APickIsItsEvent, ADrawLeavesTheState, ALayingIsItsEvent, ASplitLeavesTheState, AJoinPassesDebts, ValuesAreRight, ABlockHasOneValue, APublishedBlockWasMadeOnce, NothingElseWasMade}
 use Rattle.nichols_shelf.proofs.Taken.{take_stands}
 use Rattle.nichols_shelf.proofs.Released.{release_stands, was}
 use Rattle.nichols_shelf.proofs.Asking.{ask_stands, held, none_picked}
+use Rattle.nichols_shelf.proofs.Gives.{give_all}
 use Rattle.nichols_shelf.proofs.Published as publication
 use Rattle.nichols_shelf.proofs.Picked as picking
 use Rattle.nichols_shelf.proofs.Drawn as drawing
@@ -48,28 +54,37 @@ pub a_join_passes_debts : AJoinPassesDebts
 a_join_passes_debts g s m book id v h zeroth other u apart there alive next no_held no_resumed = (_, join_stands g s m book h.stands id v h.there h.live zeroth other u apart there alive next no_held no_resumed)
 
 pub an_ask_is_its_event : AnAskIsItsEvent
-an_ask_is_its_event g s m book id v h undrawn b a may =
+an_ask_is_its_event g s m book id v h b a may =
     let k = may.number in
     let at = may.into in
     let i = wait_place g (edge g k).lower in
     let found = get_or s.words i 0 in
     let lists : is_in (edge g k).upper v.held ≡ true = ap (λ c. is_in c v.held) at.upper ∙ may.holds in
-    let is = held g h.rules s m h.laws book h.stands id v h.there h.live k at.inside lists undrawn in
-    let none = none_picked g h.rules s m h.laws book h.stands id v h.there h.live k at.inside lists undrawn (λ j in_j up. may.unpicked j in_j (up ∙ at.upper)) in
+    let unpicked : (j : ℕ) → j < edges g → (edge g j).upper ≡ (edge g k).upper → noted_value j v.picked ≡ None = λ j in_j up. may.unpicked j in_j (up ∙ at.upper) in
+    let is = held g h.rules s m h.laws book h.stands id v h.there h.live k at.inside lists unpicked in
+    let none = none_picked g h.rules s m h.laws book h.stands id v h.there h.live k at.inside lists unpicked in
     let same = after_ask g.layout h.rules m v.worker b a k (ap m.stage (sym at.upper) ∙ is) at (subst (NonePicked g.layout.edges m) at.upper none) ∙ ap (λ c. ask c (edge g k).lower m) (sym at.upper) in (
       book,
       subst (λ n. Stands g (stepped_to s i (bit_or found (2 ^ ((edge g k).letter - 1))) id (ask_view g k found v)) n book) (sym same)
-          (ask_stands g h.rules s m h.laws book h.stands id v h.there h.live k at.inside lists undrawn),
+          (ask_stands g h.rules s m h.laws book h.stands id v h.there h.live k at.inside lists unpicked),
     )
 
+-- where slots are once all of them went home
+homes_sent : (homes : List (table.Option (Option Shared))) (out : List (ℕ × Option Shared)) → homes_after homes out (give_all out) ≡ sent_home homes out
+homes_sent homes [] = refl
+homes_sent homes (x ∷ xs) = homes_sent (set homes x.0 (some x.1)) xs
+
 pub a_publication_is_its_event : APublicationIsItsEvent
-a_publication_is_its_event g s m book id v h b inside may =
+a_publication_is_its_event g s m book id v h b inside may out are =
     let found = get_or s.words (wait_place g b) 0 in
-    let is = publication.held g s m h.laws book h.stands id v h.there h.live b inside may.holds may.picked may.laid [] refl in
-    let full = publication.full g s m h.laws book h.stands id v h.there h.live b inside may.holds may.picked may.laid [] refl in
-    let spread = publication.spread g s m h.laws book h.stands id v h.there h.live b inside may.holds may.picked may.laid [] refl in
-    subst (StandsFor g (stepped_to s (wait_place g b) (bit_or found (2 ^ 63)) id (publish_view g b found v))) (sym (after_publish g.layout h.rules m v.worker b is full spread))
-    (_, publication.publish_stands g s m h.laws book h.stands id v h.there h.live b inside may.holds may.picked may.laid [] refl)
+    let words = set s.words (wait_place g b) (bit_or found (2 ^ 63)) in
+    let views = set s.views id (publish_view g b found v) in
+    let is = publication.held g s m h.laws book h.stands id v h.there h.live b inside may.holds may.picked may.laid out are in
+    let full = publication.full g s m h.laws book h.stands id v h.there h.live b inside may.holds may.picked may.laid out are in
+    let spread = publication.spread g s m h.laws book h.stands id v h.there h.live b inside may.holds may.picked may.laid out are in
+    subst (StandsFor g (record { words = words; homes = sent_home s.homes out; views = views })) (sym (after_publish g.layout h.rules m v.worker b is full spread))
+    (subst (λ homes. StandsFor g (record { words = words; homes = homes; views = views }) (publish v.worker b m)) (homes_sent s.homes out)
+    (_, publication.publish_stands g s m h.laws book h.stands id v h.there h.live b inside may.holds may.picked may.laid out are))
 
 pub a_pick_is_its_event : APickIsItsEvent
 a_pick_is_its_event g s m book id v h b a may =
@@ -114,20 +129,14 @@ module _ (g : PlanValue) (s : Tableau) (h : Holds g s) where
   home_is : (k : ℕ) (shared : Shared) → k < edges g → get_elem? s.homes k ≡ some (some (Some shared)) → (h.machine.laid k ≡ true) × (worth shared ≡ h.book.value (edge g k).lower)
   home_is k shared in_k e = cases (h.machine.laid k) (h.machine.picked k) (h.book.drawn k) refl refl refl
     where
-      none_or_some : (x : Shared) → None ≡ Some x → ⊥
-      none_or_some x q = cc
-
-      same_shared : (x y : Shared) → Some x ≡ Some y → x ≡ y
-      same_shared x y q = cc
-
       cases : (laid picked drawn : Bool) → h.machine.laid k ≡ laid → h.machine.picked k ≡ picked → h.book.drawn k ≡ drawn → (h.machine.laid k ≡ true) × (worth shared ≡ h.book.value (edge g k).lower)
       cases true true drawn l p d = absurd (h.stands.slots.spent k in_k p shared e)
       cases true false drawn l p d =
           let r = h.stands.slots.home k in_k l p in
-          let same = same_shared r.shared shared (some-injective (Some r.shared) (Some shared) (some-injective (some (Some r.shared)) (some (Some shared)) (sym r.there ∙ e))) in
+          let same = same_Some r.shared shared (some-injective (Some r.shared) (Some shared) (some-injective (some (Some r.shared)) (some (Some shared)) (sym r.there ∙ e))) in
           (l, ap worth (sym same) ∙ r.worth_is)
       cases false picked true l p d = absurd (some-ne-none (Some shared) (some-injective (some (Some shared)) none (sym e ∙ (h.stands.slots.away k in_k d).out)))
-      cases false picked false l p d = absurd (none_or_some shared (some-injective None (Some shared) (some-injective (some None) (some (Some shared)) (sym (h.stands.slots.empty k in_k l d) ∙ e))))
+      cases false picked false l p d = absurd (none-some shared (some-injective None (Some shared) (some-injective (some None) (some (Some shared)) (sym (h.stands.slots.empty k in_k l d) ∙ e))))
 
   shown_is : (b : ℕ) (x : BlockValue) → IsShown g s b x → x ≡ h.book.value b
   shown_is b _ (at_home k shared in_k low e) = (home_is k shared in_k e).1 ∙ ap h.book.value low
@@ -166,15 +175,10 @@ a_published_block_was_made_once g s h b inside bit =
           λ j u apart there live.
               let o = h.stands.seats.knows j u there live in
               let ne : w ≢ u.worker = λ e. apart (sym o.place ∙ ap h.book.seat (sym e)) in
-              o.made b ∙ (ap (λ t. one_if (nat_lt b (blocks g) && (is_published (m.stage b) && t))) (ne_eqb w u.worker ne) ∙ ap one_if (all_false (nat_lt b (blocks g)) (is_published (m.stage b)))),
+              o.made b ∙ (ap (λ t. one_if (nat_lt b (blocks g) && (is_published (m.stage b) && t))) (ne_eqb w u.worker ne) ∙ ap one_if (and_right (nat_lt b (blocks g)) (is_published (m.stage b) && false) (and-false (is_published (m.stage b))))),
         ),
       ),
     )
-  where
-    all_false : (p q : Bool) → (p && (q && false)) ≡ false
-    all_false true true = refl
-    all_false true false = refl
-    all_false false q = refl
 
 pub nothing_else_was_made : NothingElseWasMade
 nothing_else_was_made g s h b id v there live some_times =

@@ -1,7 +1,7 @@
 -- A new pass keeps the rule, and leaves the state.
 use Rattle.std.proofs.Common.{◌≡◌, ◌≢◌, ℕ, ◌+◌, true, false, true≢false, ◌&&◌, List, [], ◌∷◌, ◌++◌, length, set, refl, sym, ap, ◌∙◌, subst, ⊎_elim, arith, length-set}
-use Rattle.std.specs.Prelude.{Some, None}
 use Rattle.std.proofs.lemmas.Bool.{false_from_ne_true, or_cases}
+use Rattle.std.proofs.lemmas.Option.{none-some}
 use Rattle.std.proofs.Math.Bool.{and-false}
 use mathlib.Core.Option.{some}
 use mathlib.Core.Logic.{dite}
@@ -12,7 +12,6 @@ use Rattle.atomic_table.proofs.Lists.{at_set, at_longer}
 use Rattle.nichols_core.specs.Machine.{Machine, put, is_held_by, is_resumed_by}
 use Rattle.nichols_core.specs.Runs.{one_if}
 use Rattle.nichols_core.proofs.Stages.{put_here, put_else}
-use Rattle.nichols_value.specs.declared.value.BlockValue.{BlockValue}
 use Rattle.nichols_shelf.specs.Plan.{PlanValue}
 use Rattle.nichols_shelf.specs.Places.{edge}
 use Rattle.nichols_shelf.specs.Views.{one_more, newcomer}
@@ -114,15 +113,12 @@ module _ (g : PlanValue) (s : Tableau) (m : Machine) (book : Book) (st : Stands 
       (let r = st.slots.notes id v at live in record { picked = r.picked; picks = r.picks; laid = r.laid; lays = r.lays; draws = r.draws })
       (λ j u apart there alive. st.slots.notes j u there alive)
       record {
-        picked = λ k x e. absurd (none_is_some x e);
+        picked = λ k x e. absurd (none-some x e);
         picks = λ k in_k h p. absurd (untended (edge g k).upper h);
-        laid = λ k x e. absurd (none_is_some x e);
+        laid = λ k x e. absurd (none-some x e);
         lays = λ k in_k h p. absurd (untended (edge g k).lower h);
         draws = λ k in_k. sym (and-false (book.drawn k)) ∙ ap (λ t. book.drawn k && t) (sym (not_held (edge g k).lower));
       })
-    where
-      none_is_some : (x : BlockValue) → None ≡ Some x → ⊥
-      none_is_some x e = cc
 
   pub split_stands : Stands g record { words = s.words; homes = s.homes; views = after } m (record book { seat = seat; count = book.count + 1 })
   split_stands = record { words = st.words; seats = seats_after; slots = slots_after }

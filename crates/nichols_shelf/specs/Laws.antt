@@ -1,22 +1,25 @@
 -- The statements of the laws of the shelf: what each kind of step does to the state for which the table stands, and what the table
 -- says in every such state.
-use Rattle.std.specs.Prelude.{◌≡◌, ◌≢◌, ℕ, ◌-◌, ◌<◌, ◌^◌, ◌==◌, true, if◌then◌else◌, [], ◌∷◌, ◌++◌, slice_index, slice_set, bit_or, Some, None}
+use Rattle.std.specs.Prelude.{◌≡◌, ◌≢◌, ℕ, ◌-◌, ◌<◌, ◌^◌, ◌==◌, true, if◌then◌else◌, List, [], ◌∷◌, ◌++◌, replicate, slice_index, slice_set, bit_or, Option, Some, None}
 use mathlib.Core.Option.{some, none}
 use lib.ListN.{get_elem?}
 use Rattle.std.specs.Int.{bit_at}
+use Rattle.atomic_table.specs.Table.{opening}
 use Rattle.nichols_core.specs.Layout.{IsLayout}
 use Rattle.nichols_core.specs.Machine.{Machine, after}
 use Rattle.nichols_core.specs.SixLaws.{SixLaws}
 use Rattle.nichols_core.specs.Changes.{take_over}
+use Rattle.nichols_core.specs.Runs.{start}
 use Rattle.nichols_core.specs.declared.event.Event.TheVariants.{Take, Ask, Pick, Lay, Publish, Release}
 use Rattle.nichols_value.specs.Worth.{worth}
 use Rattle.nichols_value.specs.declared.shared.Shared.{Shared}
 use Rattle.nichols_value.specs.declared.value.BlockValue.{BlockValue}
 use Rattle.nichols_shelf.specs.Plan.{PlanValue, IsRightFor}
 use Rattle.nichols_shelf.specs.Lists.{is_in, times_in, noted_value}
-use Rattle.nichols_shelf.specs.Places.{blocks, edges, edge, desk_place, wait_place, edge_place}
-use Rattle.nichols_shelf.specs.Views.{take_view, release_view, ask_view, publish_view, draw_view, lay_view, pick_view, one_more, newcomer, joined_view, spent_view}
+use Rattle.nichols_shelf.specs.Places.{blocks, edges, edge, desk_place, wait_place, edge_place, all_words}
+use Rattle.nichols_shelf.specs.Views.{first_view, take_view, release_view, ask_view, publish_view, draw_view, lay_view, pick_view, one_more, newcomer, joined_view, spent_view}
 use Rattle.nichols_shelf.specs.Settled.{HoldsNothing, ResumesNothing}
+use Rattle.nichols_shelf.specs.Out.{are_picked, sent_home}
 use Rattle.nichols_shelf.specs.Stands.{Tableau, Book, Stands, Holds}
 use Rattle.nichols_shelf.specs.Calls.{MayAsk, MayPick, MayLay, MayPublish}
 use Rattle.nichols_shelf.specs.declared.view.View.{View}
@@ -30,7 +33,7 @@ pub record Stood (g : PlanValue) (s : Tableau) (m : Machine) (book : Book) (id :
   pub there : get_elem? s.views id ≡ some v
   pub live : v.live ≡ true
 
--- the table after a step of that seat: a word changes, and the view does; slots too, perhaps
+-- the table after a step of that seat by which no slot moves: a word changes, and the view does
 abbrev pub stepped_to : Tableau → ℕ → ℕ → ℕ → View → Tableau
 stepped_to s i word id v = record { words = slice_set s.words i word; homes = s.homes; views = slice_set s.views id v }
 
@@ -60,6 +63,14 @@ abbrev pub WorkerNumbersAreApart : Type 0
 WorkerNumbersAreApart = (g : PlanValue) (s : Tableau) → Holds g s → (i j : ℕ) (u v : View) → get_elem? s.views i ≡ some u → u.live ≡ true → get_elem? s.views j ≡ some v → v.live ≡ true
     → (w : ℕ) → stands_for u w ≡ true → stands_for v w ≡ true → i ≡ j
 
+-- a new table: every word is 0, an empty slot is at home at each edge, and the one view is that of worker 0, who owes every block
+abbrev pub new_table : PlanValue → Tableau
+new_table g = opening (replicate (all_words g) 0) (replicate (edges g) None) (first_view g)
+
+-- it stands for the start
+abbrev pub ANewTableStandsForTheStart : Type 0
+ANewTableStandsForTheStart = (g : PlanValue) → IsLayout g.layout → StandsFor g (new_table g) (start (blocks g))
+
 abbrev pub ATakeIsItsEvent : Type 0
 ATakeIsItsEvent = (g : PlanValue) (s : Tableau) (m : Machine) (book : Book) (id : ℕ) (v : View) → Stood g s m book id v → (b : ℕ) → b < blocks g
     → let found = slice_index s.words (desk_place b) in
@@ -71,18 +82,19 @@ AReleaseIsItsEvent = (g : PlanValue) (s : Tableau) (m : Machine) (book : Book) (
     StandsFor g (stepped_to s (desk_place b) 0 id (release_view b found v)) (after g.layout.edges (Release v.worker b) m)
 
 abbrev pub AnAskIsItsEvent : Type 0
-AnAskIsItsEvent = (g : PlanValue) (s : Tableau) (m : Machine) (book : Book) (id : ℕ) (v : View) → Stood g s m book id v → v.drawn ≡ [] → (b a : ℕ) (may : MayAsk g b a v)
+AnAskIsItsEvent = (g : PlanValue) (s : Tableau) (m : Machine) (book : Book) (id : ℕ) (v : View) → Stood g s m book id v → (b a : ℕ) (may : MayAsk g b a v)
     → let k = may.number in
     let i = wait_place g (edge g k).lower in
     let found = slice_index s.words i in
     StandsFor g (stepped_to s i (bit_or found (2 ^ ((edge g k).letter - 1))) id (ask_view g k found v)) (after g.layout.edges (Ask v.worker b a) m)
 
--- (the empty slots of the edges that the pass picked go home in the same step, which changes no value)
+-- any empty slots of edges that the pass picked go home
 abbrev pub APublicationIsItsEvent : Type 0
 APublicationIsItsEvent = (g : PlanValue) (s : Tableau) (m : Machine) (book : Book) (id : ℕ) (v : View) → Stood g s m book id v → (b : ℕ) → b < blocks g → MayPublish g b v
+    → (out : List (ℕ × Option Shared)) → are_picked v out ≡ true
     → let i = wait_place g b in
     let found = slice_index s.words i in
-    StandsFor g (stepped_to s i (bit_or found (2 ^ 63)) id (publish_view g b found v)) (after g.layout.edges (Publish v.worker b) m)
+    StandsFor g (record { words = slice_set s.words i (bit_or found (2 ^ 63)); homes = sent_home s.homes out; views = slice_set s.views id (publish_view g b found v) }) (after g.layout.edges (Publish v.worker b) m)
 
 -- the slot comes out, with the value that the pass notes
 abbrev pub APickIsItsEvent : Type 0

@@ -1,21 +1,19 @@
 -- Lists of blocks, and of edges with values.
-use Rattle.std.specs.Prelude.{ℕ, zero, suc, ◌+◌, Bool, false, ◌==◌, ◌||◌, if◌then◌else◌, List, [], ◌∷◌, Option, Some, None}
+use Rattle.std.specs.Prelude.{ℕ, zero, suc, Bool, not, ◌==◌, if◌then◌else◌, List, [], ◌∷◌, filter, count_by, Option, Some, None}
+use Rattle.std.specs.List.{list_any}
 use Rattle.nichols_value.specs.declared.value.BlockValue.{BlockValue}
 
 -- whether the number stands in the list
 abbrev pub is_in : ℕ → List ℕ → Bool
-is_in b [] = false
-is_in b (x ∷ xs) = (b == x) || is_in b xs
+is_in b xs = list_any (λ x. b == x) xs
 
 -- how often the number stands in the list
 abbrev pub times_in : ℕ → List ℕ → ℕ
-times_in b [] = 0
-times_in b (x ∷ xs) = (if b == x then 1 else 0) + times_in b xs
+times_in b xs = count_by (λ x. b == x) xs
 
 -- the list without the number
 abbrev pub without : ℕ → List ℕ → List ℕ
-without b [] = []
-without b (x ∷ xs) = if b == x then without b xs else x ∷ without b xs
+without b xs = filter (λ x. not (b == x)) xs
 
 -- the numbers below n
 abbrev pub below : ℕ → List ℕ

@@ -1,5 +1,6 @@
 -- What a caller marks of a pass, so that it can ask at run time whether a call is allowed.
-use Rattle.std.specs.Prelude.{◌≡◌, ℕ, Bool, true, false, List, [], length, slice_index_or, Some, is_some}
+use Rattle.std.specs.Prelude.{◌≡◌, ℕ, Bool, true, List, [], length, Some, is_some}
+use Rattle.nichols_core.specs.States.{mark_at}
 use Rattle.nichols_value.specs.declared.value.BlockValue.{BlockValue}
 use Rattle.nichols_value.specs.declared.value.BlockValue.TheVariants.{Starved}
 use Rattle.nichols_shelf.specs.Lists.{is_in, noted_value}
@@ -9,10 +10,6 @@ use Rattle.nichols_shelf.specs.declared.pass.Pass.{Pass}
 use Rattle.nichols_shelf.specs.declared.shelf.Shelf.{Shelf}
 use Rattle.nichols_shelf.specs.declared.view.View.{View}
 
--- the mark with this number, and none past the end
-abbrev pub mark : List Bool → ℕ → Bool
-mark marks k = slice_index_or marks k false
-
 -- the marks of blocks are those that the pass holds, resumes and may know as published; the marks of edges are those that it picked
 -- and laid, and it laid want of memory alone
 pub record Mirrors (held resumed known picked laid : List Bool) (v : View) : Type 0 where
@@ -21,11 +18,11 @@ pub record Mirrors (held resumed known picked laid : List Bool) (v : View) : Typ
   pub known_room : length known ≡ blocks v.plan
   pub picked_room : length picked ≡ edges v.plan
   pub laid_room : length laid ≡ edges v.plan
-  pub holds : (b : ℕ) → mark held b ≡ is_in b v.held
-  pub resumes : (b : ℕ) → mark resumed b ≡ is_in b v.resumed
-  pub knows : (b : ℕ) → mark known b ≡ true → is_in b v.known ≡ true
-  pub picks : (k : ℕ) → mark picked k ≡ is_some (noted_value k v.picked)
-  pub lays : (k : ℕ) → mark laid k ≡ is_some (noted_value k v.laid)
+  pub holds : (b : ℕ) → mark_at held b ≡ is_in b v.held
+  pub resumes : (b : ℕ) → mark_at resumed b ≡ is_in b v.resumed
+  pub knows : (b : ℕ) → mark_at known b ≡ true → is_in b v.known ≡ true
+  pub picks : (k : ℕ) → mark_at picked k ≡ is_some (noted_value k v.picked)
+  pub lays : (k : ℕ) → mark_at laid k ≡ is_some (noted_value k v.laid)
   pub starved : (k : ℕ) (x : BlockValue) → noted_value k v.laid ≡ Some x → x ≡ Starved
 
 -- the worker number, how many passes there have been, and for whom worker 0 stands are as they were

@@ -1,10 +1,9 @@
 -- What a shelf shows once all passes but one are joined into that one, which holds and resumes nothing.
-use Rattle.std.specs.Prelude.{◌≡◌, ℕ, ◌<◌, true, false, List, slice_index, Some, is_some}
-use Rattle.std.specs.Int.{bit_at}
+use Rattle.std.specs.Prelude.{◌≡◌, ℕ, ◌<◌, true, false, Some, is_some}
 use Rattle.nichols_value.specs.declared.value.BlockValue.{BlockValue}
 use Rattle.nichols_shelf.specs.Plan.{PlanValue, IsRightFor}
 use Rattle.nichols_shelf.specs.Lists.{is_in, times_in, noted_value}
-use Rattle.nichols_shelf.specs.Places.{blocks, edges, edge, wait_place}
+use Rattle.nichols_shelf.specs.Places.{blocks, edges, edge}
 use Rattle.nichols_shelf.specs.declared.view.View.{View}
 
 -- the pass holds nothing, resumes nothing, owes nothing
@@ -24,7 +23,3 @@ pub record IsSettled (g : PlanValue) (v : View) : Type 0 where
   pub values : (k : ℕ) → k < edges g → times_in (edge g k).lower v.made ≡ 1 → is_some (noted_value k v.laid) ≡ true
   pub right : (k : ℕ) (x : BlockValue) → noted_value k v.laid ≡ Some x → IsRightFor g (edge g k).lower x
   pub equal : (j k : ℕ) (x y : BlockValue) → (edge g j).lower ≡ (edge g k).lower → noted_value j v.laid ≡ Some x → noted_value k v.laid ≡ Some y → x ≡ y
-
--- the last bits of the wait words say which blocks the pass made
-abbrev pub SayWhatIsMade : PlanValue → List ℕ → View → Type 0
-SayWhatIsMade g words v = (b : ℕ) → b < blocks g → bit_at (slice_index words (wait_place g b)) 63 ≡ times_in b v.made

@@ -1,8 +1,8 @@
 //! The laws of the shelf, each the contract of a function that does nothing. The first three say that words and views stand for
-//! one state, that all live passes hold one plan, and each worker numbers of its own; the next nine what each kind of step does to that state; the others
-//! what words, slots and views show in every such state.
+//! one state, that all live passes hold one plan, and each worker numbers of its own; the next says what a new table stands for, and
+//! the nine after it what each kind of step does to that state; the others what words, slots and views show in every such state.
 
-ghost use Rattle.nichols_shelf.specs.Laws.{ATableStandsForOneState, LiveViewsHoldThePlan, WorkerNumbersAreApart, ATakeIsItsEvent, AReleaseIsItsEvent, AnAskIsItsEvent, APublicationIsItsEvent, APickIsItsEvent, ADrawLeavesTheState, ALayingIsItsEvent, ASplitLeavesTheState, AJoinPassesDebts, ValuesAreRight, ABlockHasOneValue, APublishedBlockWasMadeOnce, NothingElseWasMade};
+ghost use Rattle.nichols_shelf.specs.Laws.{ATableStandsForOneState, LiveViewsHoldThePlan, WorkerNumbersAreApart, ANewTableStandsForTheStart, ATakeIsItsEvent, AReleaseIsItsEvent, AnAskIsItsEvent, APublicationIsItsEvent, APickIsItsEvent, ADrawLeavesTheState, ALayingIsItsEvent, ASplitLeavesTheState, AJoinPassesDebts, ValuesAreRight, ABlockHasOneValue, APublishedBlockWasMadeOnce, NothingElseWasMade};
 
 /// Words and views stand for one state alone of those that meet the six laws, wherever the slots are: each block has one stage by them.
 pub fn a_table_stands_for_one_state()
@@ -17,6 +17,12 @@ pub fn live_views_hold_the_plan()
 /// Two live passes never stand for the same worker number.
 pub fn worker_numbers_are_apart()
     ensures { WorkerNumbersAreApart }
+{}
+
+/// The words, slots and views of a new table stand for the start of the machine: every block is ready and owed by worker 0, and no
+/// edge is laid or picked.
+pub fn a_new_table_stands_for_the_start()
+    ensures { ANewTableStandsForTheStart }
 {}
 
 /// A take changes the state as the event Take does.
@@ -34,7 +40,7 @@ pub fn an_ask_is_its_event()
     ensures { AnAskIsItsEvent }
 {}
 
-/// A publication changes the state as the event Publish does.
+/// A publication changes the state as the event Publish does. Any empty slots of edges that the pass picked go home.
 pub fn a_publication_is_its_event()
     ensures { APublicationIsItsEvent }
 {}

@@ -1,6 +1,6 @@
 //! What shelves and passes show without a step.
 
-ghost use Rattle.std.specs.Prelude.{◌≡◌, ℕ, ◌^◌, ◌<◌, true, false, MatchOption};
+ghost use Rattle.std.specs.Prelude.{◌≡◌, ℕ, ◌^◌, ◌<◌, true, false, [], MatchOption};
 ghost use Rattle.nichols_shelf.specs.Lists.{is_in};
 ghost use Rattle.nichols_shelf.specs.Places.{blocks};
 ghost use Rattle.nichols_shelf.specs.Plan.{key_at};
@@ -51,6 +51,13 @@ impl Pass {
         ensures { result ≡ (view_of self.now).worker }
     {
         self.worker
+    }
+
+    /// Tells a caller that no edge is drawn between calls: `lay` lays the edge that it draws.
+    pub fn has_drawn_nothing(&self)
+        ensures { (view_of self.now).drawn ≡ [] }
+    {
+        let _ = &self.owed;
     }
 
     /// The least block that the pass owes, if it owes one.

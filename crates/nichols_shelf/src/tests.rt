@@ -10,12 +10,16 @@ ghost use Rattle.nichols_shelf.specs.Closed.{plan_in};
 ghost use Rattle.nichols_shelf.specs.Settled.{HoldsNothing, ResumesNothing};
 ghost use Rattle.nichols_shelf.specs.Passes.{IsOf, plan_of, view_of};
 ghost use Rattle.nichols_shelf.specs.Places.{blocks};
+ghost use Rattle.nichols_shelf.specs.Alone.{one_edge};
+ghost use Rattle.nichols_shelf.specs.Plan.{IsRightFor};
+ghost use Rattle.nichols_shelf.specs.Views.{first_view};
+ghost use Rattle.nichols_value.specs.Worth.{worth};
 
 use crate::tests::lockstep::step_with;
 use crate::tests::player::Player;
 use crate::tests::ruled::{
-    is_rule_of_letter, picked_after, products_of_letters, products_of_pairs, shelf_of_two,
-    value_of_first,
+    find_taken, is_rule_of_letter, make_first, make_second, park_second, products_of_letters,
+    products_of_pairs, shelf_of_two, value_of_first,
 };
 use crate::tests::setting::{Dice, Pure, random_layout, shelf_over, two_blocks};
 use crate::{Asked, Closed, Pass, Shelf};
@@ -69,35 +73,6 @@ fn closed_by_one(alloc: Global, shelf: Shelf, player: Player) -> Result<Closed, 
     shelf.close(alloc, pass_of(player))
 }
 
-/// The same by two passes of one thread: worker 0 is parked, and worker 1 makes both blocks.
-#[test]
-fn two_passes_of_one_thread(rt: HostRuntime) -> Result<(), Fail> {
-    let Some(layout) = two_blocks(rt.alloc())? else {
-        panic!(rt; "no layout");
-    };
-    let (shelf, mut pass) = shelf_over(rt.alloc(), layout)?;
-    let other = shelf.split(rt.alloc(), &mut pass)?;
-    let mut zero = Player::of(rt.alloc(), &shelf, pass)?;
-    let mut one = Player::of(rt.alloc(), &shelf, other)?;
-    assert!(rt; one.pass.worker() == 1 && one.pass.owed().is_none());
-    assert!(rt; zero.take(&shelf, 1));
-    assert!(rt; zero.ask(&shelf, 1, 1) == Some(Asked::Parked));
-    assert!(rt; one.take(&shelf, 0));
-    assert!(rt; one.lay(&shelf, 0, 1));
-    assert!(rt; one.publish(&shelf, 0) == Some(1));
-    assert!(rt; one.release(&shelf, 1));
-    assert!(rt; one.take(&shelf, 1));
-    assert!(rt; one.ask(&shelf, 1, 1) == Some(Asked::Published));
-    assert!(rt; one.pick(&shelf, 1, 1).is_some());
-    assert!(rt; one.publish(&shelf, 1) == Some(0));
-    assert!(rt; zero.pass.owed() == Some(0));
-    assert!(rt; !zero.take(&shelf, 0));
-    assert!(rt; zero.pass.owed().is_none());
-    let closed = closed_by_two(&rt, rt.alloc(), shelf, zero, one)?;
-    assert!(rt; closed.published(0) && closed.published(1));
-    Ok(())
-}
-
 /// Joins worker 1 into worker 0, and closes the shelf.
 fn closed_by_two<R: Abort>(
     rt: &R,
@@ -117,9 +92,22 @@ fn closed_by_two<R: Abort>(
     assert!(rt; zero.resumes_nothing());
     assert!(rt; one.holds_nothing());
     assert!(rt; one.resumes_nothing());
+    settled_by_two(alloc, shelf, pass_of(zero), pass_of(one))
+}
+
+fn settled_by_two(alloc: Global, shelf: Shelf, zero: Pass, one: Pass) -> Result<Closed, AllocError>
+    requires zero { IsOf shelf zero }
+    requires one { IsOf shelf one }
+    requires zeroth { (view_of zero).worker ≡ 0 }
+    requires first { (view_of one).worker ≡ (view_of zero).joined }
+    requires two { (view_of zero).joined + 1 ≡ (view_of zero).passes }
+    requires holds { HoldsNothing (view_of zero) × HoldsNothing (view_of one) }
+    requires resumes { ResumesNothing (view_of zero) × ResumesNothing (view_of one) }
+    ensures { IfOk result (λ c. plan_in c ≡ plan_of shelf) }
+{
     let mut others = Vec::new(alloc);
-    others.push(pass_of(one))?;
-    shelf.settle(alloc, pass_of(zero), others)
+    others.push(one)?;
+    shelf.settle(alloc, zero, others)
 }
 
 /// Joins the workers 1, 2 and 3 into worker 0, and closes the shelf.
@@ -196,11 +184,15 @@ fn random_steps_as_the_machine(rt: HostRuntime) -> Result<(), Fail> {
     Ok(())
 }
 
-/// One letter with the scalar 2 in the field with 7 elements: the rule of block 0 is that of the letter, and block 1 picks it.
-#[test]
+/// One letter with the scalar 2 in the field with 7 elements: a shelf over the blocks 0 and 1 of the degrees 1 and 2 with the pass of
+/// worker 0, and the value of block 0.
 #[tactic(auto, unfolding(crate::specs::Plan::IsRightFor))]
-fn a_rule_changes_hands(rt: HostRuntime) -> Result<(), Fail> {
-    let alloc = rt.alloc();
+fn shelf_of_rules<R: Abort>(rt: &R, alloc: Global) -> Result<(Shelf, Pass, Shared), Fail>
+    ensures pass { IfOk result (λ r. IsOf r.0 r.1 × (view_of r.1 ≡ first_view (plan_of r.0))) }
+    ensures edges { IfOk result (λ r. (plan_of r.0).layout.edges ≡ one_edge) }
+    ensures blocks { IfOk result (λ r. blocks (plan_of r.0) ≡ 2) }
+    ensures right { IfOk result (λ r. IsRightFor (plan_of r.0) 0 (worth r.2)) }
+{
     let braid = one_letter(alloc)?;
     let first = products_of_letters(alloc, &braid)?;
     let second = products_of_pairs(alloc, &braid, &first)?;
@@ -209,12 +201,47 @@ fn a_rule_changes_hands(rt: HostRuntime) -> Result<(), Fail> {
     let Some(layout) = two_blocks(alloc)? else {
         panic!(rt; "no layout");
     };
-    let (shelf, mut pass) = shelf_of_two(alloc, layout, &levels, &first, &second, 1024)?;
+    let (shelf, pass) = shelf_of_two(alloc, layout, &levels, &first, &second, 1024)?;
     let value = value_of_first(alloc, &levels, &first, 1024);
-    let picked = picked_after(&rt, &shelf, &mut pass, value);
+    Ok((shelf, pass, value))
+}
+
+/// One pass asks for a block that isn't published, is parked, makes that block, whose value is the rule of the letter, then picks
+/// the rule and makes its own block.
+#[test]
+fn a_rule_changes_hands(rt: HostRuntime) -> Result<(), Fail> {
+    let (shelf, mut pass, value) = shelf_of_rules(&rt, rt.alloc())?;
+    assert!(rt; shelf.key(0).degree == 1 && shelf.key(1).degree == 2);
+    assert!(rt; shelf.rows_limit() == 1024);
+    park_second(&rt, &shelf, &mut pass);
+    make_first(&rt, &shelf, &mut pass, value);
+    find_taken(&rt, &shelf, &mut pass, 1);
+    let picked = make_second(&rt, &shelf, &mut pass);
     assert!(rt; is_rule_of_letter(&picked));
     let copy = picked.copy()?;
     assert!(rt; is_rule_of_letter(&copy));
+    assert!(rt; pass.owed().is_none());
+    pass.has_drawn_nothing();
+    let closed = shelf.close(rt.alloc(), pass)?;
+    assert!(rt; closed.published(0) && closed.published(1));
+    Ok(())
+}
+
+/// The same by two passes of one thread: worker 0 is parked, and worker 1 makes both blocks.
+#[test]
+fn two_passes_of_one_thread(rt: HostRuntime) -> Result<(), Fail> {
+    let (shelf, mut zero, value) = shelf_of_rules(&rt, rt.alloc())?;
+    let mut one = shelf.split(rt.alloc(), &mut zero)?;
+    assert!(rt; one.worker() == 1 && one.owed().is_none());
+    park_second(&rt, &shelf, &mut zero);
+    make_first(&rt, &shelf, &mut one, value);
+    let picked = make_second(&rt, &shelf, &mut one);
+    assert!(rt; is_rule_of_letter(&picked));
+    assert!(rt; zero.owed() == Some(0));
+    find_taken(&rt, &shelf, &mut zero, 0);
+    assert!(rt; zero.owed().is_none() && one.owed().is_none());
+    let closed = settled_by_two(rt.alloc(), shelf, zero, one)?;
+    assert!(rt; closed.published(0) && closed.published(1));
     Ok(())
 }
 

@@ -6,7 +6,8 @@ use std::collections::LinkedList;
 
 /// What a pass knows of the shelf. No value of it is ever made: a seat has one for contracts alone.
 ///
-/// The lists of blocks are without order, but for `made`, which is in the order of the publications.
+/// The lists of blocks are without order, but for `made`, which is in the order of the publications: after a join those of the pass
+/// that was kept come first, and then those of the other.
 pub struct View {
     /// Whether the pass still is one: not once it was joined into another.
     pub live: bool,

@@ -4,17 +4,13 @@
 ghost use Rattle.std.specs.Prelude.{◌≡◌, ◌==◌, ◌<◌, ◌≤◌, ◌+◌, ◌-◌, ◌*◌, ◌||◌};
 ghost use Rattle.std.specs.Int.{bit_at};
 ghost use Rattle.nichols_tensor.specs.declared.TheConstants.{LETTER_LIMIT};
-ghost use Rattle.nichols_shelf.specs.Calls.{asked_of};
-ghost use Rattle.nichols_shelf.specs.Passes.{IsOf, view_of};
-ghost use Rattle.nichols_shelf.specs.Played.{KeepsNumbers};
+ghost use Rattle.nichols_shelf.specs.Passes.{IsOf};
+ghost use Rattle.nichols_shelf.specs.Played.{StaysOf};
 
 use crate::hand::Hand;
-use crate::pairs::Pairs;
+use crate::pairs::{LETTER, Pairs};
 use nichols_shelf::Asked;
 use nichols_value::Shared;
-
-/// The letter of every edge.
-const LETTER: u8 = 1;
 
 impl Pairs {
     /// The upper block of a pair.
@@ -31,8 +27,7 @@ impl Hand {
     pub fn take(&mut self, pairs: &Pairs, block: u32) -> bool
         requires pass { IsOf pairs.now.shelf self.old.pass }
         requires block { block < 2 * pairs.now.count }
-        ensures pass { IsOf pairs.now.shelf self.new.pass }
-        ensures numbers { KeepsNumbers (view_of self.old.pass) (view_of self.new.pass) }
+        ensures { StaysOf pairs.now.shelf self.old.pass self.new.pass }
     {
         let taken = pairs.shelf.take(&mut self.pass, block);
         let b = block as usize;
@@ -44,8 +39,7 @@ impl Hand {
     pub fn take_lower(&mut self, pairs: &Pairs, pair: u32) -> bool
         requires pass { IsOf pairs.now.shelf self.old.pass }
         requires pair { pair < pairs.now.count }
-        ensures pass { IsOf pairs.now.shelf self.new.pass }
-        ensures numbers { KeepsNumbers (view_of self.old.pass) (view_of self.new.pass) }
+        ensures { StaysOf pairs.now.shelf self.old.pass self.new.pass }
     {
         self.take(pairs, pair)
     }
@@ -54,8 +48,7 @@ impl Hand {
     pub fn take_upper(&mut self, pairs: &Pairs, pair: u32) -> bool
         requires pass { IsOf pairs.now.shelf self.old.pass }
         requires pair { pair < pairs.now.count }
-        ensures pass { IsOf pairs.now.shelf self.new.pass }
-        ensures numbers { KeepsNumbers (view_of self.old.pass) (view_of self.new.pass) }
+        ensures { StaysOf pairs.now.shelf self.old.pass self.new.pass }
     {
         self.take(pairs, pairs.upper(pair))
     }
@@ -64,15 +57,14 @@ impl Hand {
     pub fn ask(&mut self, pairs: &Pairs, pair: u32) -> Option<Asked>
         requires pass { IsOf pairs.now.shelf self.old.pass }
         requires pair { pair < pairs.now.count }
-        ensures pass { IsOf pairs.now.shelf self.new.pass }
-        ensures numbers { KeepsNumbers (view_of self.old.pass) (view_of self.new.pass) }
+        ensures { StaysOf pairs.now.shelf self.old.pass self.new.pass }
     {
         let upper = pairs.upper(pair);
         if !self.held[upper as usize] || self.picked[pair as usize] {
             return None;
         }
         let asked = pairs.shelf.ask(&mut self.pass, upper, LETTER);
-        let published = is_published(asked);
+        let published = asked.is_published();
         self.held[upper as usize] = published;
         let knew = self.known[pair as usize];
         self.known[pair as usize] = either(published, knew);
@@ -83,8 +75,7 @@ impl Hand {
     pub fn lay(&mut self, pairs: &Pairs, pair: u32) -> bool
         requires pass { IsOf pairs.now.shelf self.old.pass }
         requires pair { pair < pairs.now.count }
-        ensures pass { IsOf pairs.now.shelf self.new.pass }
-        ensures numbers { KeepsNumbers (view_of self.old.pass) (view_of self.new.pass) }
+        ensures { StaysOf pairs.now.shelf self.old.pass self.new.pass }
     {
         if !self.held[pair as usize] || self.laid[pair as usize] {
             return false;
@@ -100,8 +91,7 @@ impl Hand {
     pub fn publish_lower(&mut self, pairs: &Pairs, pair: u32) -> bool
         requires pass { IsOf pairs.now.shelf self.old.pass }
         requires pair { pair < pairs.now.count }
-        ensures pass { IsOf pairs.now.shelf self.new.pass }
-        ensures numbers { KeepsNumbers (view_of self.old.pass) (view_of self.new.pass) }
+        ensures { StaysOf pairs.now.shelf self.old.pass self.new.pass }
     {
         if !self.held[pair as usize] || !self.laid[pair as usize] {
             return false;
@@ -119,8 +109,7 @@ impl Hand {
     pub fn release(&mut self, pairs: &Pairs, pair: u32) -> bool
         requires pass { IsOf pairs.now.shelf self.old.pass }
         requires pair { pair < pairs.now.count }
-        ensures pass { IsOf pairs.now.shelf self.new.pass }
-        ensures numbers { KeepsNumbers (view_of self.old.pass) (view_of self.new.pass) }
+        ensures { StaysOf pairs.now.shelf self.old.pass self.new.pass }
     {
         let upper = pairs.upper(pair);
         if !self.resumed[upper as usize] {
@@ -135,8 +124,7 @@ impl Hand {
     pub fn pick(&mut self, pairs: &Pairs, pair: u32) -> bool
         requires pass { IsOf pairs.now.shelf self.old.pass }
         requires pair { pair < pairs.now.count }
-        ensures pass { IsOf pairs.now.shelf self.new.pass }
-        ensures numbers { KeepsNumbers (view_of self.old.pass) (view_of self.new.pass) }
+        ensures { StaysOf pairs.now.shelf self.old.pass self.new.pass }
     {
         let upper = pairs.upper(pair);
         if !self.held[upper as usize] || !self.known[pair as usize] || self.picked[pair as usize] {
@@ -151,8 +139,7 @@ impl Hand {
     pub fn publish_upper(&mut self, pairs: &Pairs, pair: u32) -> bool
         requires pass { IsOf pairs.now.shelf self.old.pass }
         requires pair { pair < pairs.now.count }
-        ensures pass { IsOf pairs.now.shelf self.new.pass }
-        ensures numbers { KeepsNumbers (view_of self.old.pass) (view_of self.new.pass) }
+        ensures { StaysOf pairs.now.shelf self.old.pass self.new.pass }
     {
         let upper = pairs.upper(pair);
         if !self.held[upper as usize] || !self.picked[pair as usize] {
@@ -161,15 +148,6 @@ impl Hand {
         let _none = pairs.shelf.publish(&mut self.pass, upper);
         self.held[upper as usize] = false;
         true
-    }
-}
-
-fn is_published(asked: Asked) -> bool
-    ensures { asked ≡ asked_of result }
-{
-    match asked {
-        Asked::Published => true,
-        Asked::Parked => false,
     }
 }
 

@@ -2,133 +2,155 @@
 
 ghost use Rattle.std.specs.Prelude.{◌≡◌, All, IfOk, vec_len};
 ghost use Rattle.nichols_shelf.specs.Passes.{IsOf, plan_of, view_of};
-ghost use Rattle.nichols_shelf.specs.Played.{KeepsNumbers};
+ghost use Rattle.nichols_shelf.specs.Played.{StaysOf};
 ghost use Rattle.nichols_shelf.specs.Views.{first_view};
 ghost use Rattle.nichols_steps.specs.Crew.{IsZeroth};
 
-use crate::hand::Hand;
 use crate::pairs::Pairs;
-use crate::phases::{PHASES, Task, Worked, work};
+use crate::phases::{Phase, Worked, work};
 use nichols_shelf::{Closed, Pass};
 use std::alloc::{AllocError, Global};
 use std::thread::{self, Threads};
 
-/// How many steps found what they should, and how many blocks are published, where the shelf was closed.
-pub(crate) struct Done {
-    pub steps: u64,
-    pub published: u32,
+/// The passes of a shelf of pairs, that of worker 0 and the others, each after its last phase.
+#[derive(Drop)]
+pub(crate) struct Crew {
+    pairs: Pairs,
+    passes: u32,
+    zero: Worked,
+    others: Vec<Worked>,
+    ghost zeroth: { IsZeroth pairs.shelf (vec_len others) zero.hand.pass },
+    ghost of_shelf: { All (λ w. IsOf pairs.shelf w.hand.pass) others.items },
 }
 
-/// Does the task. `None` where there are no passes, or too many pairs, or where a pass holds or resumes a block at the end of all
-/// phases, or has a worker number out of order.
-pub(crate) fn run<R: Threads + Sync>(
-    rt: &R,
-    alloc: Global,
-    task: Task,
-) -> Result<Option<Done>, AllocError> {
-    if task.passes == 0 {
-        return Ok(None);
+impl Crew {
+    /// So many passes over so many pairs. `None` where there are no passes, or too many pairs.
+    pub fn start(alloc: Global, pairs: u32, passes: u32) -> Result<Option<Crew>, AllocError> {
+        if passes == 0 {
+            return Ok(None);
+        }
+        let Some((pairs, pass)) = Pairs::start(alloc, pairs)? else {
+            return Ok(None);
+        };
+        let (zero, others) = split(alloc, &pairs, pass, passes)?;
+        Ok(Some(Crew {
+            pairs,
+            passes,
+            zero,
+            others,
+        }))
     }
-    let Some((pairs, pass)) = Pairs::start(alloc, task.pairs)? else {
-        return Ok(None);
-    };
-    let (zero, others) = split(alloc, &pairs, pass, task.passes)?;
-    let (zero, others) = on_threads(rt, &pairs, zero, others, task)?;
-    let steps = steps_of(&zero, &others);
-    if task.phases <= PHASES {
-        return Ok(Some(Done {
-            steps,
-            published: 0,
-        }));
+
+    /// The passes after one more phase.
+    pub fn after<R: Threads + Sync>(self, rt: &R, number: u32) -> Result<Crew, AllocError> {
+        let Crew {
+            pairs,
+            passes,
+            zero,
+            others,
+        } = self;
+        let phase = Phase { number, passes };
+        let (zero, others) = on_threads(rt, &pairs, zero, others, phase)?;
+        Ok(Crew {
+            pairs,
+            passes,
+            zero,
+            others,
+        })
     }
-    match closed(alloc, pairs, zero, others)? {
-        Some(closed) => Ok(Some(Done {
-            steps,
-            published: published_in(&closed),
-        })),
-        None => Ok(None),
+
+    /// On how many pairs the last phase found what it should.
+    pub fn found(&self) -> u64 {
+        let mut found = self.zero.found;
+        for other in self.others.iter() {
+            found = found.wrapping_add(other.found);
+        }
+        found
+    }
+
+    /// Joins all passes, closes the shelf and counts the published blocks. `None` where a pass still holds or resumes a block, or
+    /// has a worker number out of order.
+    pub fn published(self, alloc: Global) -> Result<Option<u32>, AllocError> {
+        let Crew {
+            pairs,
+            passes: _,
+            zero,
+            others,
+        } = self;
+        match closed(alloc, pairs, zero, others)? {
+            Some(closed) => Ok(Some(published_in(&closed))),
+            None => Ok(None),
+        }
     }
 }
 
-/// So many passes of a shelf: that of worker 0, and the others.
+/// So many passes of a shelf, before any phase: that of worker 0, and the others.
 fn split(
     alloc: Global,
     pairs: &Pairs,
     mut pass: Pass,
     passes: u32,
-) -> Result<(Hand, Vec<Hand>), AllocError>
+) -> Result<(Worked, Vec<Worked>), AllocError>
     requires pass { IsOf pairs.now.shelf pass }
     requires first { view_of pass ≡ first_view (plan_of pairs.now.shelf) }
-    ensures zero { IfOk result (λ r. IsZeroth pairs.now.shelf (vec_len r.1) r.0.pass) }
-    ensures others { IfOk result (λ r. All (λ h. IsOf pairs.now.shelf h.pass) r.1.items) }
+    ensures zero { IfOk result (λ r. IsZeroth pairs.now.shelf (vec_len r.1) r.0.hand.pass) }
+    ensures others { IfOk result (λ r. All (λ w. IsOf pairs.now.shelf w.hand.pass) r.1.items) }
 {
     let mut others = Vec::new(alloc);
     for _worker in 1..passes {
         let other = pairs.shelf.split(alloc, &mut pass)?;
-        others.push(Hand::of(alloc, pairs, other)?)?;
+        others.push(Worked::fresh(alloc, pairs, other)?)?;
     }
-    let zero = Hand::of(alloc, pairs, pass)?;
+    let zero = Worked::fresh(alloc, pairs, pass)?;
     Ok((zero, others))
 }
 
-/// Each pass on a thread of its own.
+/// A phase by each of these passes, each on a thread of its own.
 fn on_threads<R: Threads + Sync>(
     rt: &R,
     pairs: &Pairs,
-    zero: Hand,
-    others: Vec<Hand>,
-    task: Task,
+    zero: Worked,
+    others: Vec<Worked>,
+    phase: Phase,
 ) -> Result<(Worked, Vec<Worked>), AllocError>
-    requires zero { IsZeroth pairs.now.shelf (vec_len others) zero.pass }
-    requires others { All (λ h. IsOf pairs.now.shelf h.pass) others.items }
-    requires pairs { task.pairs ≡ pairs.now.count }
+    requires zero { IsZeroth pairs.now.shelf (vec_len others) zero.hand.pass }
+    requires others { All (λ w. IsOf pairs.now.shelf w.hand.pass) others.items }
     ensures zero { IfOk result (λ r. IsZeroth pairs.now.shelf (vec_len r.1) r.0.hand.pass) }
     ensures others { IfOk result (λ r. All (λ w. IsOf pairs.now.shelf w.hand.pass) r.1.items) }
 {
     let (zero, others) = thread::join(
         rt,
         move || -> Worked
-            requires { IsOf pairs.now.shelf zero.pass × (task.pairs ≡ pairs.now.count) }
-            ensures { IsOf pairs.entry.now.shelf result.hand.pass × KeepsNumbers (view_of zero.pass) (view_of result.hand.pass) }
-        { work(pairs, zero, task) },
+            requires { IsOf pairs.now.shelf zero.hand.pass }
+            ensures { StaysOf pairs.entry.now.shelf zero.hand.pass result.hand.pass }
+        { work(pairs, zero.hand, phase) },
         move || -> Result<Vec<Worked>, AllocError>
-            requires { All (λ h. IsOf pairs.now.shelf h.pass) others.items × (task.pairs ≡ pairs.now.count) }
+            requires { All (λ w. IsOf pairs.now.shelf w.hand.pass) others.items }
             ensures { IfOk result (λ r. (vec_len r ≡ vec_len others) × All (λ w. IsOf pairs.entry.now.shelf w.hand.pass) r.items) }
-        { all_worked(rt, pairs, others, task) },
+        { all_worked(rt, pairs, others, phase) },
     );
     Ok((zero, others?))
 }
 
-/// Each of these passes on a thread of its own.
+/// A phase by each of these passes, each on a thread of its own.
 fn all_worked<R: Threads + Sync>(
     rt: &R,
     pairs: &Pairs,
-    hands: Vec<Hand>,
-    task: Task,
+    others: Vec<Worked>,
+    phase: Phase,
 ) -> Result<Vec<Worked>, AllocError>
-    requires hands { All (λ h. IsOf pairs.now.shelf h.pass) hands.items }
-    requires pairs { task.pairs ≡ pairs.now.count }
-    ensures count { IfOk result (λ r. vec_len r ≡ vec_len hands) }
+    requires { All (λ w. IsOf pairs.now.shelf w.hand.pass) others.items }
+    ensures count { IfOk result (λ r. vec_len r ≡ vec_len others) }
     ensures worked { IfOk result (λ r. All (λ w. IsOf pairs.now.shelf w.hand.pass) r.items) }
 {
     thread::map_vec(
         rt,
-        hands,
-        &|hand: Hand| -> Worked
-            requires pass { IsOf pairs.now.shelf hand.pass }
-            requires pairs { task.pairs ≡ pairs.now.count }
+        others,
+        &|other: Worked| -> Worked
+            requires { IsOf pairs.now.shelf other.hand.pass }
             ensures { IsOf pairs.entry.now.shelf result.hand.pass }
-        { work(pairs, hand, task) },
+        { work(pairs, other.hand, phase) },
     )
-}
-
-/// The steps of all passes.
-fn steps_of(zero: &Worked, others: &[Worked]) -> u64 {
-    let mut steps = zero.steps;
-    for other in others {
-        steps = steps.wrapping_add(other.steps);
-    }
-    steps
 }
 
 /// Joins all passes, and closes the shelf. `None` where one of them still holds or resumes a block.

@@ -1,8 +1,9 @@
 //! A pass with marks of what it knows.
 
 ghost use Rattle.std.specs.Prelude.{◌≡◌, ℕ, false, IsTrue, IfOk};
+ghost use Rattle.nichols_core.specs.States.{mark_at};
 ghost use Rattle.nichols_shelf.specs.Passes.{IsOf, view_of};
-ghost use Rattle.nichols_shelf.specs.Played.{Mirrors, IsFresh, mark};
+ghost use Rattle.nichols_shelf.specs.Played.{Mirrors, IsFresh};
 ghost use Rattle.nichols_shelf.specs.Settled.{HoldsNothing, ResumesNothing};
 
 use crate::pairs::Pairs;
@@ -66,7 +67,7 @@ impl Hand {
 
 /// Whether no mark stands.
 fn is_unmarked(marks: &[bool]) -> bool
-    ensures { IsTrue result → (k : ℕ) → mark marks.now k ≡ false }
+    ensures { IsTrue result → (k : ℕ) → mark_at marks.now k ≡ false }
 {
     for i in 0..marks.len() {
         if marks[i] {

@@ -12,6 +12,9 @@ use nichols_shelf::{Pass, Shelf};
 use nichols_value::BlockKey;
 use std::alloc::{AllocError, Global};
 
+/// The letter of every edge.
+pub(crate) const LETTER: u8 = 1;
+
 /// A shelf of so many pairs. Each pair is apart from all others, so that no pass waits for another.
 #[derive(Drop)]
 pub(crate) struct Pairs {
@@ -91,7 +94,7 @@ fn edge_of(count: u32, pair: u32) -> Edge
 {
     Edge {
         lower: pair,
-        letter: 1,
+        letter: LETTER,
         upper: count + pair,
     }
 }
@@ -118,5 +121,5 @@ fn joins_pair(edge: Edge, count: u32, pair: u32) -> bool
     requires pair { pair < count }
     ensures { IsTrue result → JoinsPair count pair edge }
 {
-    edge.lower == pair && edge.letter == 1 && edge.upper == count + pair
+    edge.lower == pair && edge.letter == LETTER && edge.upper == count + pair
 }

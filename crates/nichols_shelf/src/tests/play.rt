@@ -4,11 +4,11 @@ ghost use Rattle.std.specs.Prelude.{◌≡◌, ◌==◌, ◌&&◌, ◌||◌, ◌
 ghost use Rattle.std.specs.Int.{bit_at};
 ghost use Rattle.nichols_tensor.specs.declared.TheConstants.{LETTER_LIMIT};
 ghost use Rattle.nichols_core.specs.Layout.{edge_at};
-ghost use Rattle.nichols_shelf.specs.Calls.{asked_of};
+ghost use Rattle.nichols_core.specs.States.{mark_at};
 ghost use Rattle.nichols_shelf.specs.Places.{blocks, edges};
 ghost use Rattle.nichols_shelf.specs.Passes.{IsOf, plan_of, view_of};
 ghost use Rattle.nichols_shelf.specs.Lists.{is_in};
-ghost use Rattle.nichols_shelf.specs.Played.{mark, KeepsNumbers, IsFresh};
+ghost use Rattle.nichols_shelf.specs.Played.{KeepsNumbers, IsFresh};
 ghost use Rattle.nichols_shelf.specs.Settled.{HoldsNothing, ResumesNothing};
 ghost use Rattle.nichols_shelf.specs.Views.{askers};
 
@@ -91,7 +91,7 @@ impl Player {
         }
         let lower = layout.edge(number).lower;
         let asked = shelf.ask(&mut self.pass, block, letter);
-        let published = is_published(asked);
+        let published = asked.is_published();
         self.held[block as usize] = published;
         let knew = self.known[lower as usize];
         self.known[lower as usize] = either(published, knew);
@@ -165,7 +165,7 @@ impl Player {
 
 /// Whether no mark stands.
 fn is_unmarked(marks: &[bool]) -> bool
-    ensures { IsTrue result → (k : ℕ) → mark marks.now k ≡ false }
+    ensures { IsTrue result → (k : ℕ) → mark_at marks.now k ≡ false }
 {
     for i in 0..marks.len() {
         if marks[i] {
@@ -175,19 +175,10 @@ fn is_unmarked(marks: &[bool]) -> bool
     true
 }
 
-fn is_published(asked: Asked) -> bool
-    ensures { asked ≡ asked_of result }
-{
-    match asked {
-        Asked::Published => true,
-        Asked::Parked => false,
-    }
-}
-
 /// Whether all edges into the block are marked, or none is.
 fn entries_are(layout: &Layout, picked: &[bool], block: u32, marked: bool) -> bool
     requires { length picked.now ≡ length layout.now.edges }
-    ensures { IsTrue result → (k : ℕ) → k < length layout.now.edges → (edge_at layout.now.edges k).upper ≡ block → mark picked.now k ≡ marked }
+    ensures { IsTrue result → (k : ℕ) → k < length layout.now.edges → (edge_at layout.now.edges k).upper ≡ block → mark_at picked.now k ≡ marked }
 {
     for i in 0..layout.edges.len() {
         if layout.edge(i).upper == block && picked[i] != marked {
@@ -213,7 +204,7 @@ fn all_known(layout: &Layout, known: &[bool], block: u32) -> bool
 /// Whether all edges out of the block are marked.
 fn all_laid(layout: &Layout, laid: &[bool], block: u32) -> bool
     requires { length laid.now ≡ length layout.now.edges }
-    ensures { IsTrue result → (k : ℕ) → k < length layout.now.edges → (edge_at layout.now.edges k).lower ≡ block → mark laid.now k ≡ true }
+    ensures { IsTrue result → (k : ℕ) → k < length layout.now.edges → (edge_at layout.now.edges k).lower ≡ block → mark_at laid.now k ≡ true }
 {
     for i in 0..layout.edges.len() {
         if layout.edge(i).lower == block && !laid[i] {
@@ -227,7 +218,7 @@ fn all_laid(layout: &Layout, laid: &[bool], block: u32) -> bool
 fn mark_askers(layout: &Layout, resumed: &mut Vec<bool>, block: u32, bits: u32)
     requires { length resumed.old.items ≡ length layout.now.degrees }
     ensures length { length resumed.new.items ≡ length layout.now.degrees }
-    ensures marks { (word : ℕ) → ((i : ℕ) → i < LETTER_LIMIT → bit_at bits i ≡ bit_at word i) → (b : ℕ) → mark resumed.new.items b ≡ (mark resumed.old.items b || is_in b (askers layout.now.edges block word)) }
+    ensures marks { (word : ℕ) → ((i : ℕ) → i < LETTER_LIMIT → bit_at bits i ≡ bit_at word i) → (b : ℕ) → mark_at resumed.new.items b ≡ (mark_at resumed.old.items b || is_in b (askers layout.now.edges block word)) }
 {
     for i in 0..layout.edges.len() {
         let edge = layout.edge(i);

@@ -6,9 +6,12 @@ ghost use Rattle.nichols_braid.specs.declared.TheConstants.{MOST_ROWS};
 ghost use Rattle.nichols_braid.specs.Products.{products};
 ghost use Rattle.nichols_value.specs.Value.{IsRight};
 ghost use Rattle.nichols_value.specs.Worth.{worth};
-ghost use Rattle.nichols_shelf.specs.Alone.{one_edge};
+ghost use Rattle.nichols_shelf.specs.Alone.{one_edge, ResumesSecond, KeepsBlocks};
 ghost use Rattle.nichols_shelf.specs.Passes.{IsOf, plan_of, view_of};
+ghost use Rattle.nichols_shelf.specs.Places.{blocks};
 ghost use Rattle.nichols_shelf.specs.Plan.{IsRightFor, key_at};
+ghost use Rattle.nichols_shelf.specs.Played.{IsFresh, KeepsNumbers};
+ghost use Rattle.nichols_shelf.specs.Settled.{HoldsNothing, ResumesNothing};
 ghost use Rattle.nichols_shelf.specs.Views.{first_view};
 
 use crate::{Asked, Pass, Shelf};
@@ -101,25 +104,67 @@ pub(crate) fn is_rule_of_letter(value: &Shared) -> bool {
     letter.push(1) && rule.basis().len() == 1 && rule.basis()[0] == letter
 }
 
-/// One pass makes both blocks, with this value of block 0: the value that it picks.
-pub(crate) fn picked_after<R: Abort>(
-    rt: &R,
-    shelf: &Shelf,
-    pass: &mut Pass,
-    value: Shared,
-) -> Shared
+/// A pass takes the upper block, asks for the lower one and is parked.
+pub(crate) fn park_second<R: Abort>(rt: &R, shelf: &Shelf, pass: &mut Pass)
     requires of { IsOf shelf.now pass.old }
-    requires first { view_of pass.old ≡ first_view (plan_of shelf.now) }
+    requires fresh { IsFresh (view_of pass.old) }
     requires edges { (plan_of shelf.now).layout.edges ≡ one_edge }
-    requires blocks { length (plan_of shelf.now).layout.degrees ≡ 2 }
+    requires blocks { blocks (plan_of shelf.now) ≡ 2 }
+    ensures of { IsOf shelf.now pass.new }
+    ensures fresh { IsFresh (view_of pass.new) }
+    ensures numbers { KeepsNumbers (view_of pass.old) (view_of pass.new) }
+{
+    assert!(rt; shelf.take(pass, 1));
+    let Asked::Parked = shelf.ask(pass, 1, 1) else {
+        panic!(rt; "not parked");
+    };
+}
+
+/// A pass makes the lower block, with this value of it, and by its publication resumes the upper one.
+pub(crate) fn make_first<R: Abort>(rt: &R, shelf: &Shelf, pass: &mut Pass, value: Shared)
+    requires of { IsOf shelf.now pass.old }
+    requires fresh { IsFresh (view_of pass.old) }
+    requires edges { (plan_of shelf.now).layout.edges ≡ one_edge }
+    requires blocks { blocks (plan_of shelf.now) ≡ 2 }
     requires right { IsRightFor (plan_of shelf.now) 0 (worth value) }
+    ensures of { IsOf shelf.now pass.new }
+    ensures resumes { ResumesSecond (view_of pass.new) }
+    ensures numbers { KeepsNumbers (view_of pass.old) (view_of pass.new) }
 {
     assert!(rt; shelf.take(pass, 0));
     shelf.lay(pass, 0, 1, value);
-    let _asked = shelf.publish(pass, 0);
+    assert!(rt; shelf.publish(pass, 0) == 1);
+}
+
+/// A pass finds that a block isn't ready.
+pub(crate) fn find_taken<R: Abort>(rt: &R, shelf: &Shelf, pass: &mut Pass, block: u32)
+    requires of { IsOf shelf.now pass.old }
+    requires block { block < blocks (plan_of shelf.now) }
+    ensures of { IsOf shelf.now pass.new }
+    ensures blocks { KeepsBlocks (view_of pass.old) (view_of pass.new) }
+    ensures numbers { KeepsNumbers (view_of pass.old) (view_of pass.new) }
+{
+    assert!(rt; !shelf.take(pass, block));
+}
+
+/// A pass releases the upper block, takes it, is told that the lower one is published, picks its value, and publishes the block: the
+/// value that it picked.
+pub(crate) fn make_second<R: Abort>(rt: &R, shelf: &Shelf, pass: &mut Pass) -> Shared
+    requires of { IsOf shelf.now pass.old }
+    requires resumes { ResumesSecond (view_of pass.old) }
+    requires edges { (plan_of shelf.now).layout.edges ≡ one_edge }
+    requires blocks { blocks (plan_of shelf.now) ≡ 2 }
+    ensures of { IsOf shelf.now pass.new }
+    ensures holds { HoldsNothing (view_of pass.new) }
+    ensures resumes { ResumesNothing (view_of pass.new) }
+    ensures numbers { KeepsNumbers (view_of pass.old) (view_of pass.new) }
+{
+    shelf.release(pass, 1);
     assert!(rt; shelf.take(pass, 1));
     let Asked::Published = shelf.ask(pass, 1, 1) else {
         panic!(rt; "not published");
     };
-    shelf.pick(pass, 1, 1)
+    let value = shelf.pick(pass, 1, 1);
+    assert!(rt; shelf.publish(pass, 1) == 0);
+    value
 }

@@ -14,14 +14,21 @@ use std::process::Abort;
 use std::test::Fail;
 use std::thread::{self, Threads};
 
-/// Four passes, each on a thread of its own, make some thousand steps that the dice choose, over one layout after another. Then one
-/// thread goes on with all of them. At the end a block is published exactly where it is in the pure machine.
+/// Four passes, each on a thread of its own, make 4,000 steps that the dice choose, over one layout after another; some of these find
+/// something. Then one thread goes on with all of them to the end. There a block is published exactly where it is in the pure machine.
 #[test]
 fn random_steps_on_threads(rt: HostRuntime) -> Result<(), Fail> {
     for seed in 11..31 {
         over_one_layout(&rt, rt.alloc(), seed)?;
     }
     Ok(())
+}
+
+/// A player after the steps of its thread, and how many of these found something.
+#[derive(Drop)]
+struct Outcome {
+    player: Player,
+    found: u32,
 }
 
 fn over_one_layout<R: Abort + Threads + Sync>(
@@ -43,9 +50,15 @@ fn over_one_layout<R: Abort + Threads + Sync>(
     let one = Player::of(alloc, &shelf, first)?;
     let two = Player::of(alloc, &shelf, second)?;
     let three = Player::of(alloc, &shelf, third)?;
-    let ((mut zero, mut one), (mut two, mut three)) = on_four_threads(
-        rt, &shelf, zero, one, two, three, seed,
+    let ((zero, one), (two, three)) = on_four_threads(rt, &shelf, zero, one, two, three, seed);
+    assert!(rt;
+        zero.found > 0 || one.found > 0 || two.found > 0 || three.found > 0,
+        "no step on the threads of {seed} found anything"
     );
+    let mut zero = zero.player;
+    let mut one = one.player;
+    let mut two = two.player;
+    let mut three = three.player;
     play_out(&shelf, &mut zero, &mut one, &mut two, &mut three, &mut dice);
     let closed = closed_by_four(rt, alloc, shelf, zero, one, two, three)?;
     for block in 0..9 {
@@ -67,26 +80,26 @@ fn on_four_threads<R: Threads + Sync>(
     two: Player,
     three: Player,
     seed: u64,
-) -> ((Player, Player), (Player, Player))
+) -> ((Outcome, Outcome), (Outcome, Outcome))
     requires zero { IsOf shelf.now zero.pass }
     requires one { IsOf shelf.now one.pass }
     requires two { IsOf shelf.now two.pass }
     requires three { IsOf shelf.now three.pass }
     requires blocks { length (plan_of shelf.now).layout.degrees ≡ 9 }
-    ensures zero { StaysOf shelf.now zero.pass result.0.0.pass }
-    ensures one { StaysOf shelf.now one.pass result.0.1.pass }
-    ensures two { StaysOf shelf.now two.pass result.1.0.pass }
-    ensures three { StaysOf shelf.now three.pass result.1.1.pass }
+    ensures zero { StaysOf shelf.now zero.pass result.0.0.player.pass }
+    ensures one { StaysOf shelf.now one.pass result.0.1.player.pass }
+    ensures two { StaysOf shelf.now two.pass result.1.0.player.pass }
+    ensures three { StaysOf shelf.now three.pass result.1.1.player.pass }
 {
     thread::join(
         rt,
-        move || -> (Player, Player)
+        move || -> (Outcome, Outcome)
             requires { IsOf shelf.now zero.pass × IsOf shelf.now one.pass × (length (plan_of shelf.now).layout.degrees ≡ 9) }
-            ensures { StaysOf shelf.entry.now zero.pass result.0.pass × StaysOf shelf.entry.now one.pass result.1.pass }
+            ensures { StaysOf shelf.entry.now zero.pass result.0.player.pass × StaysOf shelf.entry.now one.pass result.1.player.pass }
         { on_threads(rt, shelf, zero, one, seed) },
-        move || -> (Player, Player)
+        move || -> (Outcome, Outcome)
             requires { IsOf shelf.now two.pass × IsOf shelf.now three.pass × (length (plan_of shelf.now).layout.degrees ≡ 9) }
-            ensures { StaysOf shelf.entry.now two.pass result.0.pass × StaysOf shelf.entry.now three.pass result.1.pass }
+            ensures { StaysOf shelf.entry.now two.pass result.0.player.pass × StaysOf shelf.entry.now three.pass result.1.player.pass }
         { on_threads(rt, shelf, two, three, seed.wrapping_add(1000)) },
     )
 }
@@ -98,39 +111,42 @@ fn on_threads<R: Threads>(
     zero: Player,
     one: Player,
     seed: u64,
-) -> (Player, Player)
+) -> (Outcome, Outcome)
     requires zero { IsOf shelf.now zero.pass }
     requires one { IsOf shelf.now one.pass }
     requires blocks { length (plan_of shelf.now).layout.degrees ≡ 9 }
-    ensures zero { StaysOf shelf.now zero.pass result.0.pass }
-    ensures one { StaysOf shelf.now one.pass result.1.pass }
+    ensures zero { StaysOf shelf.now zero.pass result.0.player.pass }
+    ensures one { StaysOf shelf.now one.pass result.1.player.pass }
 {
     thread::join(
         rt,
-        move || -> Player
+        move || -> Outcome
             requires { IsOf shelf.now zero.pass × (length (plan_of shelf.now).layout.degrees ≡ 9) }
-            ensures { StaysOf shelf.entry.now zero.pass result.pass }
+            ensures { StaysOf shelf.entry.now zero.pass result.player.pass }
         { played(shelf, zero, seed.wrapping_add(100)) },
-        move || -> Player
+        move || -> Outcome
             requires { IsOf shelf.now one.pass × (length (plan_of shelf.now).layout.degrees ≡ 9) }
-            ensures { StaysOf shelf.entry.now one.pass result.pass }
+            ensures { StaysOf shelf.entry.now one.pass result.player.pass }
         { played(shelf, one, seed.wrapping_add(200)) },
     )
 }
 
-/// The player after some thousand steps. It pauses after each, so that the other thread starts before all is done.
-fn played(shelf: &Shelf, mut player: Player, seed: u64) -> Player
+/// The player after 4,000 steps. It pauses after each, so that the other thread starts before all is done.
+fn played(shelf: &Shelf, mut player: Player, seed: u64) -> Outcome
     requires shelf { IsOf shelf.now player.pass }
     requires blocks { length (plan_of shelf.now).layout.degrees ≡ 9 }
-    ensures shelf { IsOf shelf.now result.pass }
-    ensures numbers { KeepsNumbers (view_of player.pass) (view_of result.pass) }
+    ensures shelf { IsOf shelf.now result.player.pass }
+    ensures numbers { KeepsNumbers (view_of player.pass) (view_of result.player.pass) }
 {
     let mut dice = Dice { seed };
+    let mut found: u32 = 0;
     for _ in 0..4000 {
-        step(shelf, &mut player, &mut dice);
+        if step(shelf, &mut player, &mut dice) {
+            found = found.saturating_add(1);
+        }
         pause();
     }
-    player
+    Outcome { player, found }
 }
 
 fn pause() {
@@ -159,15 +175,15 @@ fn play_out(
     ensures three { StaysOf shelf.now three.old.pass three.new.pass }
 {
     for _ in 0..20000 {
-        step(shelf, zero, dice);
-        step(shelf, one, dice);
-        step(shelf, two, dice);
-        step(shelf, three, dice);
+        let _ = step(shelf, zero, dice);
+        let _ = step(shelf, one, dice);
+        let _ = step(shelf, two, dice);
+        let _ = step(shelf, three, dice);
     }
 }
 
-/// One step that the dice choose, if it is allowed.
-fn step(shelf: &Shelf, player: &mut Player, dice: &mut Dice)
+/// One step that the dice choose, if it is allowed: whether it was made, and for a take whether the block is held now.
+fn step(shelf: &Shelf, player: &mut Player, dice: &mut Dice) -> bool
     requires shelf { IsOf shelf.now player.old.pass }
     requires blocks { length (plan_of shelf.now).layout.degrees ≡ 9 }
     ensures shelf { IsOf shelf.now player.new.pass }
@@ -176,24 +192,12 @@ fn step(shelf: &Shelf, player: &mut Player, dice: &mut Dice)
     let block = dice.below(9);
     let letter = 1 + dice.below(3) as u8;
     match dice.below(6) {
-        0 => {
-            let _ = player.take(shelf, block);
-        }
-        1 => {
-            let _ = player.ask(shelf, block, letter);
-        }
-        2 => {
-            let _ = player.pick(shelf, block, letter);
-        }
-        3 => {
-            let _ = player.lay(shelf, block, letter);
-        }
-        4 => {
-            let _ = player.publish(shelf, block);
-        }
-        _ => {
-            let _ = player.release(shelf, block);
-        }
+        0 => player.take(shelf, block),
+        1 => player.ask(shelf, block, letter).is_some(),
+        2 => player.pick(shelf, block, letter).is_some(),
+        3 => player.lay(shelf, block, letter),
+        4 => player.publish(shelf, block).is_some(),
+        _ => player.release(shelf, block),
     }
 }
 

@@ -9,5 +9,5 @@ invariant-loop-worker l = record {
   zero : IsZeroth l.pairs.shelf (vec_len l.others) l.pass;
   fresh : IsFresh (view_of l.pass);
   count : 1 + vec_len l.others ≡ l._worker;
-  others : All (λ h. IsOf l.pairs.shelf h.pass) l.others.items;
+  others : All (λ w. IsOf l.pairs.shelf w.hand.pass) l.others.items;
 }

@@ -1,6 +1,5 @@
-use Rattle.nichols_shelf.specs.Passes.{IsOf, view_of}
-use Rattle.nichols_shelf.specs.Played.{KeepsNumbers}
+use Rattle.nichols_shelf.specs.Played.{StaysOf}
 use Rattle.nichols_steps.proofs.phases.phase_over.Given as goal
 
 abbrev pub invariant-loop-pair : goal.invariant-loop-pair
-invariant-loop-pair l = IsOf l.pairs.shelf l.hand.pass × KeepsNumbers (view_of l.initial.hand.pass) (view_of l.hand.pass)
+invariant-loop-pair l = StaysOf l.pairs.shelf l.initial.hand.pass l.hand.pass

@@ -32,7 +32,7 @@ fetch_or-found-requires c =
       subst (λ (h : PlanValue). Allows (Holds h) slots p.place.id p.place.me c.wait_word-wait.result (λ n. bit_or n c.letter_bit-bit.result) (ask_step (step slots c.wait_word-wait.result c.letter_bit-bit.result 0 none) p.place.me)) (sym s.same_plan)
           (subst (λ i. Allows (Holds g) slots p.place.id p.place.me i (λ n. bit_or n c.letter_bit-bit.result) (ask_step (step slots i c.letter_bit-bit.result 0 none) p.place.me)) (sym wait)
           (subst (λ b. Allows (Holds g) slots p.place.id p.place.me (wait_place g (edge g k).lower) (λ n. bit_or n b) (ask_step (step slots (wait_place g (edge g k).lower) b 0 none) p.place.me)) (sym bit)
-          (ask_allowed g slots p.place.id p.place.me k at.inside p.stored.live lists p.stored.undrawn (λ j in_j up. c.requires.may.unpicked j in_j (up ∙ at.upper))))),
+          (ask_allowed g slots p.place.id p.place.me k at.inside p.stored.live lists (λ j in_j up. c.requires.may.unpicked j in_j (up ∙ at.upper))))),
     )
 
 pub invariant_of-pass : goal.invariant_of-pass

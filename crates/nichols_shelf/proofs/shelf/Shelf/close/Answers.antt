@@ -8,10 +8,10 @@ use Rattle.nichols_shelf.specs.Views.{says_published}
 use Rattle.nichols_shelf.specs.Stands.{Holds}
 use Rattle.nichols_shelf.specs.Ended.{AreMarked}
 use Rattle.nichols_shelf.specs.Passes.{view_of}
-use Rattle.nichols_shelf.specs.Settled.{HoldsNothing, ResumesNothing, IsSettled, SayWhatIsMade}
+use Rattle.nichols_shelf.specs.Settled.{HoldsNothing, ResumesNothing, IsSettled}
 use Rattle.nichols_shelf.specs.declared.pass.Pass.{Pass}
 use Rattle.nichols_shelf.specs.declared.shelf.Shelf.{Shelf}
-use Rattle.nichols_shelf.proofs.Ending.{closes}
+use Rattle.nichols_shelf.proofs.Ending.{closes, SayWhatIsMade}
 use Rattle.nichols_shelf.proofs.shelf.Shelf.close.Goals as goal
 
 -- what a closed table of the shelf says
