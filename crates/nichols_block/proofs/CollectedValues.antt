@@ -24,11 +24,11 @@ use Rattle.nichols_block.specs.Lower.{AreLowerRules}
 
 -- ---- one letter
 
-lower_is : (braid : BraidValue) (m : ℕ) (g : List ℕ) (a first : ℕ) (b : Bool) → first ≡ leading braid a → first ≡ a → has_block braid m (product_before braid a g) ≡ b → is_lower_letter braid m g a ≡ b
-lower_is braid m g a first b e same has = ap (λ t. t && has_block braid m (product_before braid a g)) ((Decides-eqb (leading braid a) a).1 (sym e ∙ same)) ∙ has
+lower_letter_is : (braid : BraidValue) (m : ℕ) (g : List ℕ) (a first : ℕ) (b : Bool) → first ≡ leading braid a → first ≡ a → has_block braid m (product_before braid a g) ≡ b → is_lower_letter braid m g a ≡ b
+lower_letter_is braid m g a first b e same has = ap (λ t. t && has_block braid m (product_before braid a g)) ((Decides-eqb (leading braid a) a).1 (sym e ∙ same)) ∙ has
 
 pub no_lower : (braid : BraidValue) (m : ℕ) (g : List ℕ) (a first : ℕ) (h : List ℕ) → first ≡ leading braid a → first ≡ a → h ≡ product_before braid a g → (Contains (products braid m) h → ⊥) → is_lower_letter braid m g a ≡ false
-no_lower braid m g a first h e same h_is none = lower_is braid m g a first false e same (at (has_block braid m (product_before braid a g)) refl)
+no_lower braid m g a first h e same h_is none = lower_letter_is braid m g a first false e same (at (has_block braid m (product_before braid a g)) refl)
   where
     at : (b : Bool) → has_block braid m (product_before braid a g) ≡ b → b ≡ false
     at true has = absurd (none (subst (Contains (products braid m)) (sym h_is) (block_is braid m (product_before braid a g) has)))
@@ -36,7 +36,7 @@ no_lower braid m g a first h e same h_is none = lower_is braid m g a first false
 
 pub is_lower : (braid : BraidValue) (m k : ℕ) (g : List ℕ) (a first : ℕ) (h : List ℕ) → first ≡ leading braid a → first ≡ a → h ≡ product_before braid a g → k < length (products braid m) → word_at (products braid m) k ≡ h → is_lower_letter braid m g a ≡ true
 is_lower braid m k g a first h e same h_is less at =
-    lower_is braid m g a first true e same (has_block_is braid m (product_before braid a g) (subst (Contains (products braid m)) (at ∙ h_is) (word_at_is_in (products braid m) k less)))
+    lower_letter_is braid m g a first true e same (has_block_is braid m (product_before braid a g) (subst (Contains (products braid m)) (at ∙ h_is) (word_at_is_in (products braid m) k less)))
 
 -- ---- all letters
 

@@ -1,5 +1,5 @@
 -- Which lower values are the rules of lower blocks.
-use Rattle.std.proofs.Common.{◌≡◌, ◌≢◌, ℕ, zero, suc, ◌-◌, ◌<◌, ◌≤◌, List, [], map, length, get_or, take, sym, ◌∙◌, ap, subst, arith, Option, None, Some, inl, inr}
+use Rattle.std.proofs.Common.{◌≡◌, ◌≢◌, ℕ, zero, suc, ◌-◌, ◌<◌, ◌≤◌, true, List, [], map, length, get_or, take, sym, ◌∙◌, ap, subst, arith, Option, None, Some, inl, inr}
 use Rattle.std.specs.Prelude.{slice_index}
 use Rattle.std.specs.List.{All, Contains, sum_by}
 use Rattle.std.specs.Option.{MatchOption}
@@ -8,24 +8,27 @@ use Rattle.std.proofs.lemmas.List.{take_all}
 use Rattle.std.proofs.lemmas.List.Elements.{Contains-get_or, All-contains}
 use denote.Bor.{Bor}
 use Rattle.nichols_tensor.specs.Words.{up_to}
-use Rattle.nichols_tensor.proofs.Entries.{from_map}
+use Rattle.nichols_tensor.proofs.Entries.{from_map, in_map}
 use Rattle.nichols_tensor.proofs.Over.{all_at}
+use Rattle.nichols_tensor.proofs.Tests.{all_of_entries}
 use Rattle.nichols_braid.specs.Braid.{BraidValue, IsBraid, IsLetter}
 use Rattle.nichols_braid.specs.Kernel.{is_killed}
 use Rattle.nichols_braid.specs.Product.{product_before}
-use Rattle.nichols_braid.specs.Products.{leading, rows}
+use Rattle.nichols_braid.specs.Products.{leading, products, rows}
 use Rattle.nichols_braid.proofs.NextProducts.{products_size}
-use Rattle.nichols_value.specs.Block.{block_basis, left_lower_basis, lower_basis, lower_letters}
+use Rattle.nichols_value.specs.Block.{block_basis, is_whole, left_lower_basis, lower_basis, lower_letters}
 use Rattle.nichols_value.specs.Rule.{PlainRule, rule_of, lean_rule_of}
+use Rattle.nichols_value.specs.Value.{IsRight}
 use Rattle.nichols_value.specs.Worth.{worth}
 use Rattle.nichols_value.specs.declared.key.BlockKey.{BlockKey}
 use Rattle.nichols_value.specs.declared.shared.LowerValue.{LowerValue}
 use Rattle.nichols_value.specs.declared.value.BlockValue.{BlockValue}
 use Rattle.nichols_value.specs.declared.value.BlockValue.TheVariants.{Rule}
-use Rattle.nichols_value.proofs.Blocks.{no_lower_letter, product_before_leading, lower_basis_is, block_rows}
+use Rattle.nichols_value.proofs.Blocks.{no_lower_letter, product_before_leading, lower_basis_is, block_rows, from_lower_letters}
 use Rattle.nichols_value.proofs.LeftBlocks.{left_lower_is_lower, letter_sent_to}
+use Rattle.nichols_value.proofs.Wholes.{rule_value}
 use Rattle.nichols_block.specs.Below.{IsNoRule}
-use Rattle.nichols_block.specs.Lower.{AreLowerRules, IsUpperBlock}
+use Rattle.nichols_block.specs.Lower.{AreLowerRules, AreLowerValues, IsUpperBlock}
 
 -- where no lower value has the leading letter, there are no least words below
 no_words_at : (braid : BraidValue) (m : ℕ) (g : List ℕ) (lower : List LowerValue) (a : ℕ) → 1 ≤ m → map (λ (l : LowerValue). l.letter) lower ≡ lower_letters braid m g → IsLetter braid a →
@@ -104,3 +107,18 @@ pub all_counted : (braid : BraidValue) (key : BlockKey) (n b count : ℕ) → Is
 all_counted braid key n b count is block size low high counted =
     let all : b ≡ braid.letters = omega arith in
     counted ∙ ap (λ k. sum_by (λ c. length (lower_basis braid key.degree key.product c)) (up_to k)) all ∙ sym (rows_at braid key.degree key.product is block.some (images_of_all braid key block))
+
+-- ---- right values
+
+-- rules of lower blocks are right where the blocks of the degree below are whole
+pub rules_are_right : (braid : BraidValue) (limit m : ℕ) (key : BlockKey) (lower : List LowerValue) → key.degree ≡ suc m → ((g : List ℕ) → Contains (products braid m) g → is_whole braid limit m g ≡ true) → AreLowerRules braid key lower → AreLowerValues braid limit key lower
+rules_are_right braid limit m key lower degree whole h = record {
+  letters = h.letters;
+  right = all_of_entries (λ (l : LowerValue). IsRight braid limit (key.degree - 1) (product_before braid l.letter key.product) (worth l.value)) lower (λ l i.
+      let below : m ≡ key.degree - 1 = omega (arith, degree) in
+      let listed : Contains (lower_letters braid (suc m) key.product) l.letter =
+      subst (λ d. Contains (lower_letters braid d key.product) l.letter) degree (subst (λ ls. Contains ls l.letter) h.letters (in_map (λ (v : LowerValue). v.letter) l lower i)) in
+      let own : is_whole braid limit m (product_before braid l.letter key.product) ≡ true = whole (product_before braid l.letter key.product) (from_lower_letters braid m key.product l.letter listed).2 in
+      let rule = all_at (λ (v : LowerValue). worth v.value ≡ Rule (rule_of braid (key.degree - 1) (product_before braid v.letter key.product))) lower l h.rules i in
+      inl (rule ∙ sym (rule_value braid limit (key.degree - 1) (product_before braid l.letter key.product) (subst (λ d. is_whole braid limit d (product_before braid l.letter key.product) ≡ true) below own))));
+}

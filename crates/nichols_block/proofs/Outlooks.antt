@@ -101,9 +101,12 @@ right_when_made braid limit key count r whole e few same =
 
 -- ---- the walk over the lower values
 
+walked_more : (lower : List LowerValue) (i : ℕ) (l : LowerValue) → i < length lower → l ≡ get_or lower i l → take (i + 1) lower ≡ take i lower ++ l ∷ []
+walked_more lower i l less at = take_more lower i l less ∙ ap (λ (y : LowerValue). take i lower ++ y ∷ []) (sym at)
+
 pub each_more : (P : BlockValue → Type 0) (lower : List LowerValue) (i : ℕ) (l : LowerValue) → i < length lower → l ≡ get_or lower i l → P (worth l.value) → EachLower P (take i lower) → EachLower P (take (i + 1) lower)
 each_more P lower i l less at here before x j =
-    elim (Contains-append_cases (take i lower) (l ∷ []) x (subst (λ ls. Contains ls x) (take_more lower i l less ∙ ap (λ (y : LowerValue). take i lower ++ y ∷ []) (sym at)) j)) [
+    elim (Contains-append_cases (take i lower) (l ∷ []) x (subst (λ ls. Contains ls x) (walked_more lower i l less at) j)) [
       | inl k ↦ before x k
       | inr k ↦
           elim (contains_cases l [] x k) [
@@ -114,11 +117,11 @@ each_more P lower i l less at here before x j =
 
 pub some_more : (P : BlockValue → Type 0) (lower : List LowerValue) (i : ℕ) (l : LowerValue) → i < length lower → l ≡ get_or lower i l → SomeLower P (take i lower) → SomeLower P (take (i + 1) lower)
 some_more P lower i l less at (x, j, h) =
-    (x, subst (λ ls. Contains ls x) (sym (take_more lower i l less ∙ ap (λ (y : LowerValue). take i lower ++ y ∷ []) (sym at))) (Contains-append_left (take i lower) (l ∷ []) x j), h)
+    (x, subst (λ ls. Contains ls x) (sym (walked_more lower i l less at)) (Contains-append_left (take i lower) (l ∷ []) x j), h)
 
 pub some_here : (P : BlockValue → Type 0) (lower : List LowerValue) (i : ℕ) (l : LowerValue) → i < length lower → l ≡ get_or lower i l → P (worth l.value) → SomeLower P (take (i + 1) lower)
 some_here P lower i l less at h =
-    (l, subst (λ ls. Contains ls l) (sym (take_more lower i l less ∙ ap (λ (y : LowerValue). take i lower ++ y ∷ []) (sym at))) (Contains-append_right (take i lower) (l ∷ []) l (contains_first l [])), h)
+    (l, subst (λ ls. Contains ls l) (sym (walked_more lower i l less at)) (Contains-append_right (take i lower) (l ∷ []) l (contains_first l [])), h)
 
 -- ---- what the clauses say of it
 

@@ -220,22 +220,25 @@ over_cells : (us : List (List ℕ)) (P : List ℕ → Type 0) (cells : List Cell
 over_cells us P [] h = tt
 over_cells us P (c ∷ cells) h = (h.0, over_cells us P cells h.1)
 
--- a word `a s` where s isn't least: read from rows of words `a v`
-pub record IsReadLeft (braid : BraidValue) (n : ℕ) (g : List ℕ) (w : List ℕ) (a : ℕ) (lefts : List RowsValue) (cells : List Cell) : Type 0 where
-  pub ready : AreReady braid.field (length (block_basis braid (suc n) g)) (rows_by lefts a).rows cells
-  pub form : (row : List Cell) → IsRowSum braid.field (rows_by lefts a).rows cells row → AreCellsOf (block_basis braid (suc n) g) (normal_form is_killed braid (suc n) (single w)) row
+-- what a sum of the rows of a side takes for a word, and what it makes
+pub record IsReadAt (braid : BraidValue) (m : ℕ) (g w : List ℕ) (kept : RowsValue) (cells : List Cell) : Type 0 where
+  pub ready : AreReady braid.field (length (block_basis braid m g)) kept.rows cells
+  pub form : (row : List Cell) → IsRowSum braid.field kept.rows cells row → AreCellsOf (block_basis braid m g) (normal_form is_killed braid m (single w)) row
 
-pub read_left : (braid : BraidValue) → IsBraid braid → (n : ℕ) (g w : List ℕ) (rest : List (List ℕ)) (a : ℕ) (lefts : List RowsValue) (cells : List Cell) → length w ≡ suc n → IsWordOver braid.letters w → product_of braid w ≡ g → IsLetter braid a → w ≡ a ∷ drop 1 w →
-    is_least is_killed braid (drop 1 w) ≡ false → IsRising (w ∷ rest) → IsLeftSide braid (suc n) g (w ∷ rest) lefts a → AreCellsOf (left_lower_basis braid (suc n) g a) (normal_form is_killed braid n (single (drop 1 w))) cells → IsReadLeft braid n g w a lefts cells
-read_left braid is n g w rest a lefts cells size over product la word least rising side are = record {
+-- a word `image s` where the normal form of s is of earlier words: read from rows of words `image u`
+read_side : (braid : BraidValue) → IsBraid braid → (n : ℕ) (g w s : List ℕ) (rest us : List (List ℕ)) (image : List ℕ → List ℕ) (test : List ℕ → Bool) (kept : RowsValue) (cells : List Cell) → length w ≡ suc n → IsWordOver braid.letters w → product_of braid w ≡ g → w ≡ image s →
+    length s ≡ n → IsWordOver braid.letters s → ((u : List ℕ) → Contains us u → (length (image u) ≡ suc n) × IsWordOver braid.letters (image u)) → AllByRecursion (λ t. word_cmp (image t.word) (image s) ≡ Less) (normal_form is_killed braid (length s) (single s)) →
+    normal_form is_killed braid (suc n) (single (image s)) ≡ in_order braid.field (linear_map braid.field (λ u. normal_form is_killed braid (suc n) (single (image u))) (normal_form is_killed braid n (single s))) → IsRising (w ∷ rest) →
+    IsSide (block_basis braid (suc n) g) us image (λ v. normal_form is_killed braid (suc n) (single v)) test (w ∷ rest) kept → AreCellsOf us (normal_form is_killed braid n (single s)) cells → IsReadAt braid (suc n) g w kept cells
+read_side braid is n g w s rest us image test kept cells size over product word s_size s_over each before sum_of rising side are = record {
   ready = record {
     factors = form_cells_elements k us (normal_form is_killed braid n (single s)) cells (word_form_is_normal braid is n s s_size s_over).elements are;
     places = read.below;
-    elements = side_elements k ws us (λ v. a ∷ v) normal (is_left braid a) (w ∷ rest) (rows_by lefts a) (λ u i. let (l, o) = left_word braid (suc n) g a la u i in (word_form_is_normal braid is (suc n) (a ∷ u) l o).elements) side;
+    elements = side_elements k ws us image normal test (w ∷ rest) kept (λ u i. let (l, o) = each u i in (word_form_is_normal braid is (suc n) (image u) l o).elements) side;
     below = side.rows.shape.below;
   };
   form = λ row sum.
-      sum_form k is.field ws us (block_basis_rises braid (suc n) g) (λ v. normal (a ∷ v)) (rows_by lefts a).rows side.rows.shape.below cells row read.forms sum (normal w) whole (normal_in_block braid is (suc n) g w size over product)
+      sum_form k is.field ws us (block_basis_rises braid (suc n) g) (λ u. normal (image u)) kept.rows side.rows.shape.below cells row read.forms sum (normal w) whole (normal_in_block braid is (suc n) g w size over product)
       own.ordered own.elements;
 }
   where
@@ -245,14 +248,35 @@ read_left braid is n g w rest a lefts cells size over product la word least risi
     ws : List (List ℕ)
     ws = block_basis braid (suc n) g
 
-    us : List (List ℕ)
-    us = left_lower_basis braid (suc n) g a
-
-    s : List ℕ
-    s = drop 1 w
-
     normal : List ℕ → Combination
     normal v = normal_form is_killed braid (suc n) (single v)
+
+    own : IsNormalForm is_killed braid (suc n) (single w) (normal w)
+    own = word_form_is_normal braid is (suc n) w size over
+
+    earlier : AllByRecursion (λ t. word_cmp (image t.word) w ≡ Less) (normal_form is_killed braid n (single s))
+    earlier =
+        subst (λ v. AllByRecursion (λ t. word_cmp (image t.word) v ≡ Less) (normal_form is_killed braid n (single s))) (sym word)
+        (subst (λ i. AllByRecursion (λ t. word_cmp (image t.word) (image s) ≡ Less) (normal_form is_killed braid i (single s))) s_size before)
+
+    read : AreRead ws us normal image kept cells
+    read =
+        side_read ws us image normal test w rest kept cells rising are.below
+        (over_cells us (λ v. word_cmp (image v) w ≡ Less) cells (subst (AllByRecursion (λ t. word_cmp (image t.word) w ≡ Less)) (sym are.form) earlier)) side
+
+    whole : normal w ≡ in_order k (linear_map k (λ u. normal (image u)) (combination_at us cells))
+    whole = ap normal word ∙ sum_of ∙ ap (λ (f : Combination). in_order k (linear_map k (λ u. normal (image u)) f)) (sym are.form)
+
+-- a word `a s` where s isn't least: read from rows of words `a v`
+pub read_left : (braid : BraidValue) → IsBraid braid → (n : ℕ) (g w : List ℕ) (rest : List (List ℕ)) (a : ℕ) (lefts : List RowsValue) (cells : List Cell) → length w ≡ suc n → IsWordOver braid.letters w → product_of braid w ≡ g → IsLetter braid a → w ≡ a ∷ drop 1 w →
+    is_least is_killed braid (drop 1 w) ≡ false → IsRising (w ∷ rest) → IsLeftSide braid (suc n) g (w ∷ rest) lefts a → AreCellsOf (left_lower_basis braid (suc n) g a) (normal_form is_killed braid n (single (drop 1 w))) cells → IsReadAt braid (suc n) g w (rows_by lefts a) cells
+read_left braid is n g w rest a lefts cells size over product la word least rising side are =
+    read_side braid is n g w s rest (left_lower_basis braid (suc n) g a) (λ v. a ∷ v) (is_left braid a) (rows_by lefts a) cells size over product word s_size s_over (left_word braid (suc n) g a la)
+    ((reads_earlier is_killed braid is.field s (killed_is_linear braid is (length s)) s_over least).left a)
+    (left_form_is_normal is_killed braid is.field (killed_is_ideal_from_left braid is) n a s la s_size s_over) rising side are
+  where
+    s : List ℕ
+    s = drop 1 w
 
     s_size : length s ≡ n
     s_size = let e : length w ≡ suc (length s) = ap length word in omega arith
@@ -260,79 +284,19 @@ read_left braid is n g w rest a lefts cells size over product la word least risi
     s_over : IsWordOver braid.letters s
     s_over = (subst (IsWordOver braid.letters) word over).1
 
-    own : IsNormalForm is_killed braid (suc n) (single w) (normal w)
-    own = word_form_is_normal braid is (suc n) w size over
-
-    earlier : AllByRecursion (λ t. word_cmp (a ∷ t.word) (a ∷ s) ≡ Less) (normal_form is_killed braid n (single s))
-    earlier =
-        subst (λ i. AllByRecursion (λ t. word_cmp (a ∷ t.word) (a ∷ s) ≡ Less) (normal_form is_killed braid i (single s))) s_size
-        ((reads_earlier is_killed braid is.field s (killed_is_linear braid is (length s)) s_over least).left a)
-
-    read : AreRead ws us normal (λ v. a ∷ v) (rows_by lefts a) cells
-    read =
-        side_read ws us (λ v. a ∷ v) normal (is_left braid a) w rest (rows_by lefts a) cells rising are.below
-        (over_cells us (λ v. word_cmp (a ∷ v) w ≡ Less) cells
-        (subst (AllByRecursion (λ t. word_cmp (a ∷ t.word) w ≡ Less)) (sym are.form) (subst (λ v. AllByRecursion (λ t. word_cmp (a ∷ t.word) v ≡ Less) (normal_form is_killed braid n (single s))) (sym word) earlier))) side
-
-    whole : normal w ≡ in_order k (linear_map k (λ v. normal (a ∷ v)) (combination_at us cells))
-    whole =
-        ap normal word ∙ left_form_is_normal is_killed braid is.field (killed_is_ideal_from_left braid is) n a s la s_size s_over ∙ ap (λ (f : Combination). in_order k (linear_map k (λ v. normal (a ∷ v)) f)) (sym are.form)
-
 -- and a word `u b` where u isn't least, from rows of words `u b`
-pub record IsReadRight (braid : BraidValue) (n : ℕ) (g : List ℕ) (w : List ℕ) (b : ℕ) (rights : List RowsValue) (cells : List Cell) : Type 0 where
-  pub ready : AreReady braid.field (length (block_basis braid (suc n) g)) (rows_by rights b).rows cells
-  pub form : (row : List Cell) → IsRowSum braid.field (rows_by rights b).rows cells row → AreCellsOf (block_basis braid (suc n) g) (normal_form is_killed braid (suc n) (single w)) row
-
 pub read_right : (braid : BraidValue) → IsBraid braid → (n : ℕ) (g w : List ℕ) (rest : List (List ℕ)) (b : ℕ) (rights : List RowsValue) (cells : List Cell) → length w ≡ suc n → IsWordOver braid.letters w → product_of braid w ≡ g → IsLetter braid b → w ≡ but_last w ++ b ∷ [] →
-    is_least is_killed braid (but_last w) ≡ false → IsRising (w ∷ rest) → IsRightSide braid (suc n) g (w ∷ rest) rights b → AreCellsOf (lower_basis braid (suc n) g b) (normal_form is_killed braid n (single (but_last w))) cells → IsReadRight braid n g w b rights cells
-read_right braid is n g w rest b rights cells size over product lb word least rising side are = record {
-  ready = record {
-    factors = form_cells_elements k us (normal_form is_killed braid n (single s)) cells (word_form_is_normal braid is n s s_size s_over).elements are;
-    places = read.below;
-    elements = side_elements k ws us (λ u. u ++ b ∷ []) normal (is_right braid b) (w ∷ rest) (rows_by rights b) (λ u i. let (l, o) = right_word braid (suc n) g b lb u i in (word_form_is_normal braid is (suc n) (u ++ b ∷ []) l o).elements) side;
-    below = side.rows.shape.below;
-  };
-  form = λ row sum.
-      sum_form k is.field ws us (block_basis_rises braid (suc n) g) (λ u. normal (u ++ b ∷ [])) (rows_by rights b).rows side.rows.shape.below cells row read.forms sum (normal w) whole (normal_in_block braid is (suc n) g w size over product)
-      own.ordered own.elements;
-}
+    is_least is_killed braid (but_last w) ≡ false → IsRising (w ∷ rest) → IsRightSide braid (suc n) g (w ∷ rest) rights b → AreCellsOf (lower_basis braid (suc n) g b) (normal_form is_killed braid n (single (but_last w))) cells → IsReadAt braid (suc n) g w (rows_by rights b) cells
+read_right braid is n g w rest b rights cells size over product lb word least rising side are =
+    read_side braid is n g w s rest (lower_basis braid (suc n) g b) (λ u. u ++ b ∷ []) (is_right braid b) (rows_by rights b) cells size over product word s_size s_over (right_word braid (suc n) g b lb)
+    ((reads_earlier is_killed braid is.field s (killed_is_linear braid is (length s)) s_over least).right b)
+    (right_form_is_normal is_killed braid is.field (killed_is_ideal_from_right braid is) n s b s_size s_over lb) rising side are
   where
-    k : FieldValue
-    k = braid.field
-
-    ws : List (List ℕ)
-    ws = block_basis braid (suc n) g
-
-    us : List (List ℕ)
-    us = lower_basis braid (suc n) g b
-
     s : List ℕ
     s = but_last w
-
-    normal : List ℕ → Combination
-    normal v = normal_form is_killed braid (suc n) (single v)
 
     s_size : length s ≡ n
     s_size = let e : length w ≡ length s + 1 = ap length word ∙ length-append s (b ∷ []) in omega arith
 
     s_over : IsWordOver braid.letters s
     s_over = word_over_front braid.letters s (b ∷ []) (subst (IsWordOver braid.letters) word over)
-
-    own : IsNormalForm is_killed braid (suc n) (single w) (normal w)
-    own = word_form_is_normal braid is (suc n) w size over
-
-    earlier : AllByRecursion (λ t. word_cmp (t.word ++ b ∷ []) (s ++ b ∷ []) ≡ Less) (normal_form is_killed braid n (single s))
-    earlier =
-        subst (λ i. AllByRecursion (λ t. word_cmp (t.word ++ b ∷ []) (s ++ b ∷ []) ≡ Less) (normal_form is_killed braid i (single s))) s_size
-        ((reads_earlier is_killed braid is.field s (killed_is_linear braid is (length s)) s_over least).right b)
-
-    read : AreRead ws us normal (λ u. u ++ b ∷ []) (rows_by rights b) cells
-    read =
-        side_read ws us (λ u. u ++ b ∷ []) normal (is_right braid b) w rest (rows_by rights b) cells rising are.below
-        (over_cells us (λ v. word_cmp (v ++ b ∷ []) w ≡ Less) cells
-        (subst (AllByRecursion (λ t. word_cmp (t.word ++ b ∷ []) w ≡ Less)) (sym are.form) (subst (λ v. AllByRecursion (λ t. word_cmp (t.word ++ b ∷ []) v ≡ Less) (normal_form is_killed braid n (single s))) (sym word) earlier))) side
-
-    whole : normal w ≡ in_order k (linear_map k (λ u. normal (u ++ b ∷ [])) (combination_at us cells))
-    whole =
-        ap normal word ∙ right_form_is_normal is_killed braid is.field (killed_is_ideal_from_right braid is) n s b s_size s_over lb
-        ∙ ap (λ (f : Combination). in_order k (linear_map k (λ u. normal (u ++ b ∷ [])) f)) (sym are.form)

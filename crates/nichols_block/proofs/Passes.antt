@@ -32,11 +32,11 @@ use Rattle.nichols_block.specs.declared.words.Listed.{Listed}
 use Rattle.nichols_block.specs.Places.{ArePlacesOf}
 use Rattle.nichols_block.specs.Rows.{rows_by}
 use Rattle.nichols_block.specs.Words.{AreListed, block_new_words, but_last, is_left, is_right, listed_words}
-use Rattle.nichols_block.specs.Pass.{IsOfBlock, IsPassing, IsRowSum, IsSide, IsSumPushedAt, IsTable, is_both, is_related, least_more, new_cells, spots_more, with_row_of}
+use Rattle.nichols_block.specs.Pass.{IsOfBlock, IsPassing, IsSide, IsSumPushedAt, IsTable, is_both, is_related, least_more, new_cells, spots_more, with_row_of}
 use Rattle.nichols_block.proofs.ListedWords.{IsListedWord, from_listed, left_of_listed, listed_words_rise, new_of_listed, right_of_listed}
 use Rattle.nichols_block.proofs.RelatedWords.{related_of_listed}
 use Rattle.nichols_block.proofs.Numbering.{IsNewRow, IsToldBy, new_row, numbering_more, numbering_pass, place_is_there}
-use Rattle.nichols_block.proofs.PassSteps.{AreReady, IsReadLeft, IsReadRight, lefts_more, lefts_pass, read_left, read_right, right_at, rights_more, rights_pass, table_more, table_pass}
+use Rattle.nichols_block.proofs.PassSteps.{IsReadAt, lefts_more, lefts_pass, read_left, read_right, right_at, rights_more, rights_pass, table_more, table_pass}
 use Rattle.nichols_block.proofs.Sides.{side_end, side_place, side_start}
 
 -- ---- the word that the pass meets
@@ -203,11 +203,6 @@ new_word_passes braid is m g w rest a b places rights lefts spots columns least 
 
 -- ---- a word that is read from the left
 
--- what a sum takes, and what it makes
-pub record IsReadAt (braid : BraidValue) (m : ℕ) (g w : List ℕ) (kept : RowsValue) (cells : List Cell) : Type 0 where
-  pub ready : AreReady braid.field (length (block_basis braid m g)) kept.rows cells
-  pub form : (row : List Cell) → IsRowSum braid.field kept.rows cells row → AreCellsOf (block_basis braid m g) (normal_form is_killed braid m (single w)) row
-
 below_one : (n : ℕ) → suc n - 1 ≡ n
 below_one n = omega arith
 
@@ -216,20 +211,16 @@ pub left_ready : (braid : BraidValue) → IsBraid braid → (m : ℕ) (g w : Lis
     IsReadAt braid m g w (rows_by lefts a) cells
 left_ready braid is zero g w rest a b places rights lefts spots columns least cells met other passing are = absurd (omega (arith, met.some))
 left_ready braid is (suc n) g w rest a b places rights lefts spots columns least cells met other passing are =
-    let r : IsReadLeft braid n g w a lefts cells =
     read_left braid is n g w rest a lefts cells met.own.size met.own.over met.own.product met.first met.front other met.rising (passing.left a met.first)
-    (subst (λ i. AreCellsOf (left_lower_basis braid (suc n) g a) (normal_form is_killed braid i (single (drop 1 w))) cells) (below_one n) are) in
-    record { ready = r.ready; form = r.form }
+    (subst (λ i. AreCellsOf (left_lower_basis braid (suc n) g a) (normal_form is_killed braid i (single (drop 1 w))) cells) (below_one n) are)
 
 pub right_ready : (braid : BraidValue) → IsBraid braid → (m : ℕ) (g w : List ℕ) (rest : List (List ℕ)) (a b : ℕ) (places : List Place) (rights lefts : List RowsValue) (spots : List Spot) (columns : List ℕ) (least : ℕ) (cells : List Cell) → IsMet braid m g w rest a b →
     is_least is_killed braid (but_last w) ≡ false → IsPassing braid m g places (w ∷ rest) rights lefts spots columns least → AreCellsOf (lower_basis braid m g b) (normal_form is_killed braid (m - 1) (single (but_last w))) cells →
     IsReadAt braid m g w (rows_by rights b) cells
 right_ready braid is zero g w rest a b places rights lefts spots columns least cells met other passing are = absurd (omega (arith, met.some))
 right_ready braid is (suc n) g w rest a b places rights lefts spots columns least cells met other passing are =
-    let r : IsReadRight braid n g w b rights cells =
     read_right braid is n g w rest b rights cells met.own.size met.own.over met.own.product met.last met.back other met.rising (passing.right b met.last)
-    (subst (λ i. AreCellsOf (lower_basis braid (suc n) g b) (normal_form is_killed braid i (single (but_last w))) cells) (below_one n) are) in
-    record { ready = r.ready; form = r.form }
+    (subst (λ i. AreCellsOf (lower_basis braid (suc n) g b) (normal_form is_killed braid i (single (but_last w))) cells) (below_one n) are)
 
 -- a wider table is wide enough
 pub ready_below : (rows : List (List Cell)) (n width : ℕ) → n ≤ width → AllRowsBelow n rows → AllRowsBelow width rows

@@ -19,6 +19,7 @@ use Rattle.nichols_echelon.specs.declared.rows.Place.{Place}
 use Rattle.nichols_echelon.specs.declared.rows.Place.TheVariants.{Independent, Depends}
 use Rattle.nichols_rows.specs.CombinationAt.{combination_at}
 use Rattle.nichols_rows.specs.Places.{independent_in}
+use Rattle.nichols_rows.proofs.Split.{independent_in-map}
 use Rattle.nichols_value.specs.declared.key.BlockKey.{BlockKey}
 use Rattle.nichols_value.specs.declared.spot.Spot.{Spot}
 use Rattle.nichols_value.specs.Block.{block_basis, block_relations, lower_basis}
@@ -37,12 +38,6 @@ use Rattle.nichols_block.proofs.LowerRules.{images_of_all}
 
 -- ---- independent entries
 
-independent_map : {X Y : Type 0} (f : X → Y) (xs : List X) (places : List Place) → independent_in (map f xs) places ≡ map f (independent_in xs places)
-independent_map f [] places = refl
-independent_map f (x ∷ xs) [] = refl
-independent_map f (x ∷ xs) (Independent ∷ places) = ap (λ ys. f x ∷ ys) (independent_map f xs places)
-independent_map f (x ∷ xs) (Depends cells ∷ places) = independent_map f xs places
-
 all_independent : {X : Type 0} (P : X → Type 0) (xs : List X) (places : List Place) → AllByRecursion P xs → AllByRecursion P (independent_in xs places)
 all_independent P [] places h = tt
 all_independent P (x ∷ xs) [] h = tt
@@ -56,7 +51,7 @@ least_in places r = record { rows = independent_in r.rows places; begun = [] }
 least_are_rows : (ws : List (List ℕ)) (F : List ℕ → Combination) (news least : List (List ℕ)) (places : List Place) (rows : RowsValue) → independent_in news places ≡ least → AreRowsOf ws (map F news) rows → AreRowsOf ws (map F least) (least_in places rows)
 least_are_rows ws F news least places rows e h = record {
   shape = record { closed = refl; shape = all_independent IsRow rows.rows places h.shape.shape; below = all_independent (AllBelow (length ws)) rows.rows places h.shape.below };
-  forms = sym (independent_map (combination_at ws) rows.rows places) ∙ ap (λ fs. independent_in fs places) h.forms ∙ independent_map F news places ∙ ap (map F) e;
+  forms = sym (independent_in-map (combination_at ws) rows.rows places) ∙ ap (λ fs. independent_in fs places) h.forms ∙ independent_in-map F news places ∙ ap (map F) e;
 }
 
 -- ---- lists by letter

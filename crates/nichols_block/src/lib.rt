@@ -22,7 +22,7 @@ pub use making::make;
 pub use nichols_value::{BlockKey, BlockRule, BlockValue, Form, Looked, LowerValue, Shared};
 
 /// The greatest number of words, rows or columns of a block: their places are kept in 32 bits.
-const MOST_PLACES: usize = 0xFFFF_FFFF;
+const MOST_PLACES: usize = u32::MAX as usize;
 
 #[cfg(test)]
 mod tests;

@@ -12,7 +12,7 @@ ghost use Rattle.nichols_block.specs.Tested.{AreRightFor};
 use super::*;
 use crate::lowest::lowest_rule;
 use nichols_braid::{Braid, MOST_DEGREES, Product, Products};
-use nichols_testing::{braid_with_constant, has_words, three_transpositions, word};
+use nichols_testing::{braid_with_constant, has_terms, has_words, three_transpositions, word};
 use std::alloc::{AllocError, Global};
 use std::test::Fail;
 
@@ -159,44 +159,37 @@ fn two_degrees(alloc: Global, braid: &Braid, limit: u32) -> Result<Values, Fail>
 /// The terms of a combination, with the word of each as a text.
 type Terms = &'static [(&'static str, u32)];
 
-fn has_terms(form: &Form<'_>, expected: &[(&str, u32)]) -> bool {
-    if form.len() != expected.len() {
-        return false;
-    }
-    for k in 0..form.len() {
-        let term = form.term(k);
-        let (text, coefficient) = expected[k];
-        if term.word != word(text) || term.coefficient != coefficient {
-            return false;
-        }
-    }
-    true
-}
-
 /// A candidate with the terms of its form.
 type Expected = (&'static str, Terms);
 
 /// Whether a value is a rule with these least words, and with relations of these candidates and forms.
-fn is_rule(value: &Shared, words: &[&str], relations: &[Expected]) -> bool {
+fn is_rule(
+    alloc: Global,
+    value: &Shared,
+    words: &[&str],
+    relations: &[Expected],
+) -> Result<bool, AllocError> {
     let Some(BlockValue::Rule(rule)) = value.get() else {
-        return false;
+        return Ok(false);
     };
     if !has_words(rule.basis(), words) || rule.relation_count() != relations.len() {
-        return false;
+        return Ok(false);
     }
     for k in 0..relations.len() {
         let relation = rule.relation(k);
         let (candidate, form) = relations[k];
-        if relation.candidate != word(candidate) || !has_terms(&relation.form, form) {
-            return false;
+        let found = relation.form.copy(alloc)?;
+        if relation.candidate != word(candidate) || !has_terms(&found, form) {
+            return Ok(false);
         }
     }
-    true
+    Ok(true)
 }
 
 /// Whether the value at a place of a list is a rule with one least word, and the derivatives of that word by the letters have these
 /// terms.
 fn has_derivatives(
+    alloc: Global,
     braid: &Braid,
     _m: u32,
     _limit: u32,
@@ -204,24 +197,25 @@ fn has_derivatives(
     values: &[Shared],
     k: usize,
     expected: &[Terms],
-) -> bool
+) -> Result<bool, AllocError>
     requires { AreRightFor braid.now _limit _m _list.now (length _list.now) values.now }
 {
     if k >= values.len() {
-        return false;
+        return Ok(false);
     }
     let Some(BlockValue::Rule(rule)) = values[k].get() else {
-        return false;
+        return Ok(false);
     };
     if rule.basis().len() != 1 || expected.len() != usize::from(braid.letters()) {
-        return false;
+        return Ok(false);
     }
     for a in 0..braid.letters() {
-        if !has_terms(&rule.derivative(a + 1, 0), expected[usize::from(a)]) {
-            return false;
+        let found = rule.derivative(a + 1, 0).copy(alloc)?;
+        if !has_terms(&found, expected[usize::from(a)]) {
+            return Ok(false);
         }
     }
-    true
+    Ok(true)
 }
 
 /// The least words of the blocks of degree 1, and those of degree 2 with the relations.
@@ -242,11 +236,11 @@ fn blocks_of_the_three_transpositions(rt: HostRuntime) -> Result<(), Fail> {
     let values = two_degrees(alloc, &braid, 100)?;
     assert_eq!(rt; values.one.len(), 3);
     for (value, words) in values.one.iter().zip(&LETTERS) {
-        assert!(rt; is_rule(value, words, &[]));
+        assert!(rt; is_rule(alloc, value, words, &[])?);
     }
     assert_eq!(rt; values.two.len(), 3);
     for (value, (words, relations)) in values.two.iter().zip(&PAIRS) {
-        assert!(rt; is_rule(value, words, relations));
+        assert!(rt; is_rule(alloc, value, words, relations)?);
     }
     Ok(())
 }
@@ -261,9 +255,10 @@ fn derivatives_of_a_letter(rt: HostRuntime) -> Result<(), Fail> {
     let letters = none.next(alloc, &braid).map_err(|_| "too many products")?;
     let values = next_values(alloc, &braid, 0, 100, &none, empty.as_slice(), &letters)?;
     assert_eq!(rt; values.len(), 3);
-    assert!(rt; is_rule(&values[0], &["1"], &[]));
+    assert!(rt; is_rule(alloc, &values[0], &["1"], &[])?);
     assert!(rt;
         has_derivatives(
+            alloc,
             &braid,
             1,
             100,
@@ -271,7 +266,7 @@ fn derivatives_of_a_letter(rt: HostRuntime) -> Result<(), Fail> {
             values.as_slice(),
             0,
             &[&[("", 1)], &[], &[]],
-        )
+        )?
     );
     Ok(())
 }
@@ -290,7 +285,7 @@ fn trivial_rack(rt: HostRuntime) -> Result<(), Fail> {
     let more = two_degrees(alloc, &braid, 2)?;
     assert_eq!(rt; more.one.len(), 1);
     assert_eq!(rt; more.two.len(), 1);
-    assert!(rt; is_rule(&more.one[0], &["1", "2"], &[]));
+    assert!(rt; is_rule(alloc, &more.one[0], &["1", "2"], &[])?);
     assert!(rt; matches!(more.two[0].get(), Some(BlockValue::Over(4))));
     Ok(())
 }

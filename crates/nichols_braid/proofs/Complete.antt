@@ -9,6 +9,7 @@ use Rattle.std.proofs.lemmas.Grind.{flat_map-append}
 use Rattle.std.proofs.lemmas.Bool.Decides.{nat_tests, Decides-eqb}
 use Rattle.nichols_field.specs.Field.{FieldValue, IsField, times}
 use Rattle.nichols_tensor.specs.Words.{up_to, IsLetterOf}
+use Rattle.nichols_tensor.specs.declared.TheConstants.{LETTER_LIMIT}
 use Rattle.nichols_braid.specs.Braid.{BraidValue, entry, act, scalar, IsBraid, IsRack}
 use Rattle.nichols_braid.specs.Faults.{letters, rack_shape, rack_entry, not_bijective, not_distributive, cocycle_shape, cocycle_zero, not_cocycle, letters_fault, rack_shape_fault, is_letter, entry_fault_at, rack_entry_fault, rows_fault, bijection_fault_at, bijection_fault, distributivity_fault_at, distributivity_fault, cocycle_shape_fault, zero_fault_at, zero_fault, cocycle_fault_at, cocycle_fault}
 use Rattle.nichols_braid.specs.TableLaws.{IsSquare, HasPlaces, IsAsGiven, BraidsAreAccepted}
@@ -62,7 +63,7 @@ rows_are_faultless k rows given braid h =
     let long : length rows ≡ braid.letters = h.letters.0 in
     record {
       least = subst (λ m. 1 ≤ m) (sym long) h.lawful.least;
-      most = subst (λ m. m ≤ 24) (sym long) h.lawful.most;
+      most = subst (λ m. m ≤ LETTER_LIMIT) (sym long) h.lawful.most;
       square = subst (λ m. IsSquare m rows) (sym long) h.letters;
       entries = subst (λ m. (i j : ℕ) → IsLetterOf m i → IsLetterOf m j → is_letter m (integer_at rows i j) ≡ true) (sym long)
           (λ i j li lj. subst (λ v. is_letter braid.letters v ≡ true) (h.rack i j li lj) (letter_passes braid.letters (act braid i j) (h.lawful.rack.closed i j li lj)));
@@ -103,7 +104,7 @@ no_row_fault : (rows : List (List ℤ)) → IsFaultless rows → rows_fault rows
 unfolding letters_fault rack_shape_fault rack_entry_fault
 no_row_fault rows h =
     let n : ℕ = length rows in
-    ap₂ option_or (ap (λ b. cond b None (Some (letters n))) (letter_passes 24 n (h.least, h.most)))
+    ap₂ option_or (ap (λ b. cond b None (Some (letters n))) (letter_passes LETTER_LIMIT n (h.least, h.most)))
     (ap₂ option_or (ap (option_map rack_shape) (square_fits n rows h.square))
     (ap (λ o. option_or o None) (no_pair n (λ i. entry_fault_at n (row_at rows i) i) (λ i j li lj. ap (λ b. cond b None (Some (rack_entry i j (integer_at rows i j)))) (h.entries i j li lj)))))
 

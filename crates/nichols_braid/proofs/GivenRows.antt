@@ -4,13 +4,14 @@ use Rattle.std.specs.Prelude.{Option, ℤ, pos, negsuc, slice_index, slice_index
 use Rattle.std.specs.List.{AllByRecursion, flat_map}
 use Rattle.std.specs.Option.{option_map}
 use Rattle.std.proofs.Math.Nat.{suc-mul}
-use Rattle.std.proofs.lemmas.Bool.{cases_lt}
+use Rattle.std.proofs.lemmas.Bool.{cases_lt, and_from}
 use Rattle.std.proofs.lemmas.Bool.Decides.{nat_tests, Decides-eqb}
 use Rattle.std.proofs.lemmas.List.{length-map, length-replicate, get_or-map, get_or_append_left, get_or-append_right}
 use Rattle.nichols_field.specs.Field.{FieldValue, IsField, IsElement, residue}
 use Rattle.nichols_field.proofs.FieldLaws.{residue_is_element}
 use Rattle.nichols_tensor.specs.Words.{IsLetterOf}
 use Rattle.nichols_tensor.proofs.Over.{all-append}
+use Rattle.nichols_tensor.specs.declared.TheConstants.{LETTER_LIMIT}
 use Rattle.nichols_braid.specs.Braid.{entry}
 use Rattle.nichols_braid.specs.Faults.{letters, rack_shape, cocycle_shape, row_fits, wrong_row, letters_fault, rack_shape_fault, is_letter, entry_fault_at, rack_entry_fault, cocycle_shape_fault}
 use Rattle.nichols_braid.specs.TableLaws.{IsSquare, HasPlaces}
@@ -156,27 +157,22 @@ letter_is n (pos v) e = at (nat_le 1 v) (nat_le v n) refl refl e
 letter_is n (negsuc v) e = cc
 
 pub letter_passes : (n a : ℕ) → IsLetterOf n a → is_letter n (pos a) ≡ true
-letter_passes n a l = at (nat_le 1 a) (nat_le a n) (let h : 1 ≤ a = l.0 in grind (arith, nat_tests, h)) (let h : a ≤ n = l.1 in grind (arith, nat_tests, h))
-  where
-    at : (b c : Bool) → b ≡ true → c ≡ true → (b && c) ≡ true
-    at true true p q = refl
-    at true false p q = cc
-    at false c p q = cc
+letter_passes n a l = and_from (nat_le 1 a) (nat_le a n) (let h : 1 ≤ a = l.0 in grind (arith, nat_tests, h)) (let h : a ≤ n = l.1 in grind (arith, nat_tests, h))
 
 -- ---- rows and scalars without a fault
 
--- 1 to 24 rows with a letter in each column
+-- 1 to `LETTER_LIMIT` rows with a letter in each column
 pub record IsFaultless (rows : List (List ℤ)) : Type 0 where
   pub least : 1 ≤ length rows
-  pub most : length rows ≤ 24
+  pub most : length rows ≤ LETTER_LIMIT
   pub square : IsSquare (length rows) rows
   pub entries : (i j : ℕ) → IsLetterOf (length rows) i → IsLetterOf (length rows) j → is_letter (length rows) (integer_at rows i j) ≡ true
 
-pub count_fits : (rows : List (List ℤ)) → letters_fault rows ≡ None → (1 ≤ length rows) × (length rows ≤ 24)
+pub count_fits : (rows : List (List ℤ)) → letters_fault rows ≡ None → (1 ≤ length rows) × (length rows ≤ LETTER_LIMIT)
 unfolding letters_fault
-count_fits rows e = at (nat_le 1 (length rows)) (nat_le (length rows) 24) refl refl e
+count_fits rows e = at (nat_le 1 (length rows)) (nat_le (length rows) LETTER_LIMIT) refl refl e
   where
-    at : (b c : Bool) → nat_le 1 (length rows) ≡ b → nat_le (length rows) 24 ≡ c → cond (b && c) None (Some (letters (length rows))) ≡ None → (1 ≤ length rows) × (length rows ≤ 24)
+    at : (b c : Bool) → nat_le 1 (length rows) ≡ b → nat_le (length rows) LETTER_LIMIT ≡ c → cond (b && c) None (Some (letters (length rows))) ≡ None → (1 ≤ length rows) × (length rows ≤ LETTER_LIMIT)
     at true true p q e = (grind (arith, nat_tests, p), grind (arith, nat_tests, q))
     at true false p q e = cc
     at false c p q e = cc

@@ -6,15 +6,16 @@ use Rattle.std.specs.Cmp.Lexicographic.{slice_cmp}
 use Rattle.std.specs.FinMap.{slice_cmp-IsAntisymmetric, nat_cmp-IsAntisymmetric}
 use Rattle.std.specs.List.{Contains}
 use Rattle.std.specs.Option.{is_some}
-use Rattle.std.specs.Ordering.{nat_cmp, is_eq, ordering_then}
+use Rattle.std.specs.Ordering.{nat_cmp, is_eq}
 use Rattle.std.specs.declared.cmp.Ordering.{Ordering}
 use Rattle.std.specs.declared.cmp.Ordering.TheVariants.{Less, Equal, Greater}
 use Rattle.std.specs.declared.option.Option.{Option}
 use Rattle.std.proofs.Math.Seq.{get_or-append_seam}
 use Rattle.std.proofs.lemmas.Bool.{cases_lt}
 use Rattle.std.proofs.lemmas.List.{get_or_append_left}
+use Rattle.std.proofs.lemmas.Option.{same_Some}
+use Rattle.std.proofs.lemmas.Cmp.{nat_list_cmp_total, tied_itself}
 use Rattle.nichols_tensor.specs.Positions.{word_at}
-use Rattle.nichols_tensor.proofs.AllWords.{number_same}
 use Rattle.nichols_tensor.proofs.Rising.{word_at_is_in, position_of}
 use Rattle.nichols_braid.specs.ProductIndex.{IsIndexed}
 use Rattle.nichols_braid.specs.declared.TheConstants.{MOST_PRODUCTS}
@@ -29,17 +30,10 @@ equal_by_test Greater h = cc
 at_same : (g q : List ℕ) → is_at (slice_cmp nat_cmp g) q ≡ true → g ≡ q
 at_same g q h = slice_cmp-IsAntisymmetric nat_cmp-IsAntisymmetric g q (equal_by_test (slice_cmp nat_cmp g q) h)
 
-itself : (g : List ℕ) → slice_cmp nat_cmp g g ≡ Equal
-itself [] = refl
-itself (x ∷ g) = ap (λ o. ordering_then o (slice_cmp nat_cmp g g)) (number_same x x refl) ∙ itself g
-
 -- ---- look-ups
 
-some_same : (i j : ℕ) → Some i ≡ Some j → i ≡ j
-some_same i j e = cc
-
 pub once_indexed : (gs : List (List ℕ)) (m : BTreeMap (List ℕ) ℕ) → IsIndexed gs m → (i j : ℕ) → i < length gs → j < length gs → word_at gs i ≡ word_at gs j → i ≡ j
-once_indexed gs m h i j low high e = some_same i j (sym (h.placed i low) ∙ ap (get (slice_cmp nat_cmp) m) e ∙ h.placed j high)
+once_indexed gs m h i j low high e = same_Some i j (sym (h.placed i low) ∙ ap (get (slice_cmp nat_cmp) m) e ∙ h.placed j high)
 
 pub look_up : (gs : List (List ℕ)) (m : BTreeMap (List ℕ) ℕ) (g : List ℕ) (r : Option ℕ) → IsIndexed gs m → r ≡ get (slice_cmp nat_cmp) m g → MatchOption r (Contains gs g → ⊥) (λ k. (k < length gs) × (word_at gs k ≡ g))
 look_up gs m g None h e = λ i. let (k, less, same) = position_of gs g i in absurd (let c : None ≡ Some k = e ∙ ap (get (slice_cmp nat_cmp) m) (sym same) ∙ h.placed k less in cc)
@@ -78,12 +72,12 @@ indexed-push gs m n g h room new updates = record { few = rw size (omega arith);
           | inl less ↦ ap (get (slice_cmp nat_cmp) n) (word_kept gs g k less) ∙ updates (word_at gs k) ∙ before k less (is_at (slice_cmp nat_cmp g) (word_at gs k)) refl
           | inr last ↦
               let same : k ≡ length gs = omega (arith, last, within, size) in
-              ap (get (slice_cmp nat_cmp) n) (word_last gs g k same) ∙ updates g ∙ ap (λ o. cond (is_eq o) (Some (length gs)) (get (slice_cmp nat_cmp) m g)) (itself g) ∙ ap Some (sym same)
+              ap (get (slice_cmp nat_cmp) n) (word_last gs g k same) ∙ updates g ∙ ap (λ o. cond (is_eq o) (Some (length gs)) (get (slice_cmp nat_cmp) m g)) (tied_itself nat_list_cmp_total g) ∙ ap Some (sym same)
         ]
 
     listed : (q : List ℕ) (k : ℕ) → get (slice_cmp nat_cmp) n q ≡ Some k → (k < length (gs ++ g ∷ [])) × (word_at (gs ++ g ∷ []) k ≡ q)
     listed q k e = at (is_at (slice_cmp nat_cmp g) q) refl (sym (updates q) ∙ e)
       where
         at : (b : Bool) → is_at (slice_cmp nat_cmp g) q ≡ b → cond b (Some (length gs)) (get (slice_cmp nat_cmp) m q) ≡ Some k → (k < length (gs ++ g ∷ [])) × (word_at (gs ++ g ∷ []) k ≡ q)
-        at true d s = let same : k ≡ length gs = sym (some_same (length gs) k s) in (rw size (omega (arith, same)), word_last gs g k same ∙ at_same g q d)
+        at true d s = let same : k ≡ length gs = sym (same_Some (length gs) k s) in (rw size (omega (arith, same)), word_last gs g k same ∙ at_same g q d)
         at false d s = let l : (k < length gs) × (word_at gs k ≡ q) = h.listed q k s in (rw size (omega (arith, l.0)), word_kept gs g k l.0 ∙ l.1)

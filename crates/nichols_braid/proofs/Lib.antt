@@ -1,4 +1,4 @@
-mod WorkedRows
+pub mod WorkedRows
 mod WorkedTwisted
 mod WorkedSides
 pub mod Search

@@ -6,7 +6,7 @@ use Rattle.std.specs.Cmp.{first_so, second_so}
 use Rattle.std.specs.Ordering.{nat_cmp, ordering_then}
 use Rattle.std.specs.Cmp.Lexicographic.{slice_cmp}
 use Rattle.std.specs.declared.cmp.Ordering.TheVariants.{Less, Equal, Greater}
-use Rattle.std.proofs.lemmas.Bool.{cases_lt}
+use Rattle.std.proofs.lemmas.Bool.{cases_lt, eqb-false}
 use Rattle.std.proofs.lemmas.Bool.Decides.{nat_tests, Decides-eqb}
 use Rattle.nichols_field.specs.Field.{FieldValue, times}
 use Rattle.nichols_tensor.specs.Words.{IsLetterOf}
@@ -22,6 +22,7 @@ use Rattle.nichols_braid.proofs.FirstAnswers.{no_triple_answers, first_letter, f
 use Rattle.nichols_braid.proofs.FirstPlaces.{no_letter_answers, no_pair_answers, IsFirstPair, pair_is}
 use Rattle.nichols_braid.proofs.GivenRows.{passes, none_before_map, row_there, no_row_above, count_fits, letter_is, letter_passes}
 use Rattle.std.proofs.lemmas.Option.{cond_some}
+use Rattle.nichols_tensor.specs.declared.TheConstants.{LETTER_LIMIT}
 
 -- ---- the order of places
 
@@ -113,12 +114,9 @@ some_before_map : {X Y : Type 0} (f : X → Y) (o : Option X) (y : Y) → option
 some_before_map f None y e = cc
 some_before_map f (Some x) y e = (x, refl, cc)
 
-differ_by_test : (a b : ℕ) → nat_eq a b ≡ false → a ≢ b
-differ_by_test a b e same = let d : true ≡ false = sym ((Decides-eqb a b).1 same) ∙ e in cc
-
 -- ---- the number of rows
 
-count_wrong : (rows : List (List ℤ)) (b c : Bool) → nat_le 1 (length rows) ≡ b → nat_le (length rows) 24 ≡ c → (b && c) ≡ false → (length rows ≡ 0) ⊎ (24 < length rows)
+count_wrong : (rows : List (List ℤ)) (b c : Bool) → nat_le 1 (length rows) ≡ b → nat_le (length rows) LETTER_LIMIT ≡ c → (b && c) ≡ false → (length rows ≡ 0) ⊎ (LETTER_LIMIT < length rows)
 count_wrong rows true true p q e = cc
 count_wrong rows true false p q e = inr (grind (arith, nat_tests, q))
 count_wrong rows false c p q e = inl (let less : length rows < 1 = grind (arith, nat_tests, p) in omega arith)
@@ -129,7 +127,7 @@ search_count k rows given = record { found = found; missed = missed }
   where
     found : (fault : TableFault) → letters_fault rows ≡ Some fault → IsFound k rows given 1 fault
     found fault e =
-        let (wrong, same) = wrong_by_test (nat_le 1 (length rows) && nat_le (length rows) 24) (letters (length rows)) fault e in
+        let (wrong, same) = wrong_by_test (nat_le 1 (length rows) && nat_le (length rows) LETTER_LIMIT) (letters (length rows)) fault e in
         subst (IsFound k rows given 1) same (record {
           holds = (refl, count_wrong rows _ _ refl refl wrong);
           same = refl;
@@ -153,7 +151,7 @@ wrong_where_unfit n rows r l e = at (nat_le r n) (nat_le r (length rows)) (nat_e
   where
     at : (a b c d : Bool) → nat_le r n ≡ a → nat_le r (length rows) ≡ b → nat_eq (length (row_at rows r)) n ≡ c → nat_lt (length rows) r ≡ d → cond a (b && c) d ≡ false → IsWrongRow n rows r
     at true true true d p q s t e = cc
-    at true true false d p q s t e = inl ((l.0, grind (arith, nat_tests, p)), inr (differ_by_test _ _ s))
+    at true true false d p q s t e = inl ((l.0, grind (arith, nat_tests, p)), inr (eqb-false _ _ s))
     at true false c d p q s t e = inl ((l.0, grind (arith, nat_tests, p)), inl (grind (arith, nat_tests, q)))
     at false b c true p q s t e = cc
     at false b c false p q s t e =
@@ -316,7 +314,7 @@ search_distributivity k rows given = record { found = found; missed = missed }
         let u : ℕ = image (given_rack rows) p.i (image (given_rack rows) p.j p.k) in
         let v : ℕ = image (given_rack rows) (image (given_rack rows) p.i p.j) (image (given_rack rows) p.i p.k) in
         let (wrong, same) = wrong_by_test (nat_eq u v) (not_distributive p.i p.j p.k u v) fault p.answers in
-        subst (IsFound k rows given 5) same (record { holds = (p.first, p.second, p.third, refl, refl, differ_by_test u v wrong); same = refl; least = least fault p })
+        subst (IsFound k rows given 5) same (record { holds = (p.first, p.second, p.third, refl, refl, eqb-false u v wrong); same = refl; least = least fault p })
 
     missed : distributivity_fault (given_rack rows) ≡ None → (other : TableFault) → kind_of other ≡ 5 → Holds k rows given other → ⊥
     missed none (not_distributive i j l u v) of_kind h = right i j l u v (no_triple_answers (length rows) (distributivity_fault_at (given_rack rows)) none i j l h.0 h.1 h.2) h
@@ -363,7 +361,7 @@ search_cocycle k rows given = record { found = found; missed = missed }
         let u : ℕ = times k (scalar b p.i (act b p.j p.k)) (scalar b p.j p.k) in
         let v : ℕ = times k (scalar b (act b p.i p.j) (act b p.i p.k)) (scalar b p.i p.k) in
         let (wrong, same) = wrong_by_test (nat_eq u v) (not_cocycle p.i p.j p.k u v) fault p.answers in
-        subst (IsFound k rows given 8) same (record { holds = (p.first, p.second, p.third, refl, refl, differ_by_test u v wrong); same = refl; least = least fault p })
+        subst (IsFound k rows given 8) same (record { holds = (p.first, p.second, p.third, refl, refl, eqb-false u v wrong); same = refl; least = least fault p })
 
     missed : cocycle_fault (given_tables k rows given) ≡ None → (other : TableFault) → kind_of other ≡ 8 → Holds k rows given other → ⊥
     missed none (not_cocycle i j l u v) of_kind h = right i j l u v (no_triple_answers (length rows) (cocycle_fault_at (given_tables k rows given)) none i j l h.0 h.1 h.2) h

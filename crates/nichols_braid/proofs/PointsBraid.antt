@@ -6,6 +6,7 @@ use Rattle.std.proofs.lemmas.List.{length-replicate}
 use Rattle.nichols_field.specs.Field.{FieldValue, IsField, IsElement, prime_field, times}
 use Rattle.nichols_field.proofs.OnNumerals.{field_on_numerals}
 use Rattle.nichols_tensor.specs.Words.{IsLetterOf}
+use Rattle.nichols_tensor.specs.declared.TheConstants.{LETTER_LIMIT}
 use Rattle.nichols_braid.specs.Braid.{BraidValue, IsBraid, IsRack, IsCocycle, act, scalar}
 use Rattle.nichols_braid.specs.Points.{points_braid}
 use Rattle.nichols_braid.specs.PointsLaws.{IsTransposition}
@@ -126,11 +127,11 @@ cocycle_size : (k : ℕ) → length (points_braid k).cocycle ≡ (points_braid k
 unfolding points_braid
 cocycle_size k = length-replicate (count k * count k) 100
 
-pub is_braid_of_points : (k : ℕ) → 1 ≤ count k → count k ≤ 24 → IsBraid (points_braid k)
+pub is_braid_of_points : (k : ℕ) → 1 ≤ count k → count k ≤ LETTER_LIMIT → IsBraid (points_braid k)
 is_braid_of_points k least most = record {
   field = subst IsField (sym (points_field k)) is_field;
   least = subst (λ n. 1 ≤ n) (sym (letters_are k)) least;
-  most = subst (λ n. n ≤ 24) (sym (letters_are k)) most;
+  most = subst (λ n. n ≤ LETTER_LIMIT) (sym (letters_are k)) most;
   rack_size = rack_size k;
   cocycle_size = cocycle_size k;
   rack = points_rack k;

@@ -2,8 +2,9 @@
 use Rattle.std.proofs.Common.{◌≡◌, ℕ, zero, suc, ◌+◌, ◌-◌, ◌*◌, ◌<◌, ◌≤◌, List, [], ◌∷◌, ◌++◌, map, length, replicate, get_or, ◌∙◌, ap, ap₂, arith, length-append}
 use Rattle.std.specs.Prelude.{slice_index}
 use Rattle.std.specs.List.{flat_map}
-use Rattle.std.proofs.Math.Nat.{suc-mul, mul-le-mul}
+use Rattle.std.proofs.Math.Nat.{suc-mul}
 use Rattle.std.proofs.lemmas.List.{length-map, get_or-map, get_or_append_left, get_or-append_right, get_or-replicate}
+use Rattle.std.proofs.lemmas.Nat.{mul-add-lt}
 use Rattle.nichols_tensor.specs.Words.{IsLetterOf}
 use Rattle.nichols_braid.specs.Braid.{entry}
 use Rattle.nichols_braid.specs.Transpositions.{Transposition}
@@ -36,14 +37,8 @@ unfolding entry
 entry_of_table f ts i j l m =
     rows_at f ts ts (i - 1) (j - 1) (let h : (1 ≤ i) × (i ≤ length ts) = l in omega arith) (let h : (1 ≤ j) × (j ≤ length ts) = m in omega arith)
 
-place_below : (n i j : ℕ) → i < n → j < n → i * n + j < n * n
-place_below n i j less below =
-    let most : suc i * n ≤ n * n = mul-le-mul (omega arith) (omega arith) in
-    let more : suc i * n ≡ i * n + n = suc-mul i n in
-    omega arith
-
 pub entry_of_constant : (n c i j : ℕ) → IsLetterOf n i → IsLetterOf n j → entry n (replicate (n * n) c) i j ≡ c
 unfolding entry
 entry_of_constant n c i j l m =
     get_or-replicate (n * n) ((i - 1) * n + (j - 1)) c 0
-    (place_below n (i - 1) (j - 1) (let h : (1 ≤ i) × (i ≤ n) = l in omega arith) (let h : (1 ≤ j) × (j ≤ n) = m in omega arith))
+    (mul-add-lt (i - 1) n (j - 1) n (let h : (1 ≤ i) × (i ≤ n) = l in omega arith) (let h : (1 ≤ j) × (j ≤ n) = m in omega arith))

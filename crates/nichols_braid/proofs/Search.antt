@@ -7,7 +7,7 @@ use Rattle.nichols_braid.specs.FaultAnswers.{IsFault}
 use Rattle.nichols_braid.specs.Faults.{TableFault, first_answer}
 use Rattle.nichols_braid.specs.declared.faults.BraidFault.{BraidFault}
 
-or_assoc : {X : Type 0} (o p q : Option X) → option_or (option_or o p) q ≡ option_or o (option_or p q)
+pub or_assoc : {X : Type 0} (o p q : Option X) → option_or (option_or o p) q ≡ option_or o (option_or p q)
 or_assoc None p q = refl
 or_assoc (Some x) p q = refl
 

@@ -1,11 +1,12 @@
 -- Worked rows over the three transpositions with 101 elements and scalar -1: lifts, images and derivatives.
-use Rattle.std.proofs.Common.{◌≡◌, ℕ, List, [], ◌∷◌, refl, true}
+use Rattle.std.proofs.Common.{◌≡◌, [], ◌∷◌, refl, true}
 use Rattle.std.specs.Prelude.{pos}
 use Rattle.nichols_field.specs.Field.{prime_field}
 use Rattle.nichols_field.proofs.OnNumerals.{field_on_numerals}
-use Rattle.nichols_tensor.specs.Combination.{Term, Combination, single, is_zero}
+use Rattle.nichols_tensor.specs.Combination.{Combination, single, is_zero}
 use Rattle.nichols_tensor.specs.Words.{words, words_before, combinations}
 use Rattle.nichols_tensor.specs.Parts.{longest, degrees_of}
+use Rattle.nichols_tensor.proofs.Terms.{term}
 use Rattle.nichols_braid.specs.Braid.{BraidValue, entry}
 use Rattle.nichols_braid.specs.Lift.{lift}
 use Rattle.nichols_braid.specs.Symmetrizer.{permutations, lifts, symmetrizer_image}
@@ -14,16 +15,13 @@ use Rattle.nichols_braid.specs.Kernel.{is_in_kernel, is_killed}
 use Rattle.nichols_braid.specs.Least.{are_congruent, is_least, basis, normal_form, candidates, relations}
 use Rattle.nichols_braid.specs.WholeForm.{normal_form_by_parts}
 
-abbrev three : BraidValue
+abbrev pub three : BraidValue
 three = record {
   field = prime_field (pos 101);
   letters = 3;
   rack = 1 ∷ 3 ∷ 2 ∷ 3 ∷ 2 ∷ 1 ∷ 2 ∷ 1 ∷ 3 ∷ [];
   cocycle = 100 ∷ 100 ∷ 100 ∷ 100 ∷ 100 ∷ 100 ∷ 100 ∷ 100 ∷ 100 ∷ [];
 }
-
-abbrev term : List ℕ → ℕ → Term
-term w c = record { word = w; coefficient = c }
 
 three_places : permutations 3 ≡ (3 ∷ 2 ∷ 1 ∷ []) ∷ (3 ∷ 1 ∷ 2 ∷ []) ∷ (2 ∷ 3 ∷ 1 ∷ []) ∷ (1 ∷ 3 ∷ 2 ∷ []) ∷ (2 ∷ 1 ∷ 3 ∷ []) ∷ (1 ∷ 2 ∷ 3 ∷ []) ∷ []
 unfolding permutations

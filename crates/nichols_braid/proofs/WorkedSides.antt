@@ -1,10 +1,11 @@
 -- Worked rows of products from the left, of letters carried past words, of products of words and of new words. The values come from another program.
-use Rattle.std.proofs.Common.{◌≡◌, ℕ, List, [], ◌∷◌, refl}
+use Rattle.std.proofs.Common.{◌≡◌, [], ◌∷◌, refl}
 use Rattle.std.specs.Prelude.{pos}
 use Rattle.nichols_field.specs.Field.{prime_field}
 use Rattle.nichols_field.proofs.OnNumerals.{field_on_numerals}
-use Rattle.nichols_tensor.specs.Combination.{Term, is_zero}
+use Rattle.nichols_tensor.specs.Combination.{is_zero}
 use Rattle.nichols_tensor.specs.Words.{words, words_before, combinations}
+use Rattle.nichols_tensor.proofs.Terms.{term}
 use Rattle.nichols_braid.specs.Braid.{BraidValue, entry}
 use Rattle.nichols_braid.specs.Derivation.{derived_word}
 use Rattle.nichols_braid.specs.Kernel.{is_killed}
@@ -12,9 +13,6 @@ use Rattle.nichols_braid.specs.Least.{are_congruent, is_least}
 use Rattle.nichols_braid.specs.LeftProduct.{letter_times, carried_past}
 use Rattle.nichols_braid.specs.NewWords.{is_new, new_words}
 use Rattle.nichols_braid.specs.Product.{product_of, unact, product_before, part_of_product}
-
-abbrev term : List ℕ → ℕ → Term
-term w c = record { word = w; coefficient = c }
 
 -- ---- letters from the left
 

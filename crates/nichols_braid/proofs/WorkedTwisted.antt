@@ -1,11 +1,12 @@
 -- Worked rows over racks whose maps aren't their own inverses, over racks where a letter moves itself, and over cocycles that
 -- aren't constant. The values come from another program.
-use Rattle.std.proofs.Common.{◌≡◌, ℕ, List, [], ◌∷◌, refl, nat_lt, Some, None}
+use Rattle.std.proofs.Common.{◌≡◌, ℕ, [], ◌∷◌, refl, nat_lt, Some, None}
 use Rattle.std.specs.Prelude.{pos, Option, if◌then◌else◌}
 use Rattle.nichols_field.specs.Field.{prime_field}
 use Rattle.nichols_field.proofs.OnNumerals.{field_on_numerals}
-use Rattle.nichols_tensor.specs.Combination.{Term, single, is_zero}
+use Rattle.nichols_tensor.specs.Combination.{single, is_zero}
 use Rattle.nichols_tensor.specs.Words.{words, words_before, combinations}
+use Rattle.nichols_tensor.proofs.Terms.{term}
 use Rattle.nichols_braid.specs.Braid.{BraidValue, entry}
 use Rattle.nichols_braid.specs.Lift.{lift}
 use Rattle.nichols_braid.specs.Symmetrizer.{permutations, lifts, symmetrizer_image}
@@ -13,9 +14,6 @@ use Rattle.nichols_braid.specs.Derivation.{derived_word, skew_derivative}
 use Rattle.nichols_braid.specs.Kernel.{is_in_kernel, is_killed}
 use Rattle.nichols_braid.specs.Least.{are_congruent, is_least, basis, normal_form, candidates, relations}
 use Rattle.nichols_braid.specs.End.{degrees_finished, finished_from, is_closed, stop_of}
-
-abbrev term : List ℕ → ℕ → Term
-term w c = record { word = w; coefficient = c }
 
 -- ---- each letter moves every letter one on
 

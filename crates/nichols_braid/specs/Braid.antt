@@ -41,7 +41,7 @@ pub record IsCocycle (braid : BraidValue) : Type 0 where
   pub law : (i j k : ℕ) → IsLetter braid i → IsLetter braid j → IsLetter braid k →
       times braid.field (scalar braid i (act braid j k)) (scalar braid j k) ≡ times braid.field (scalar braid (act braid i j) (act braid i k)) (scalar braid i k)
 
--- a rack of 1 to 24 letters with a 2-cocycle
+-- a rack of 1 to LETTER_LIMIT letters with a 2-cocycle
 pub record IsBraid (braid : BraidValue) : Type 0 where
   pub field : IsField braid.field
   pub least : 1 ≤ braid.letters

@@ -43,7 +43,7 @@ first_fault (fault ∷ faults) = option_or fault (first_fault faults)
 
 -- ---- the rows
 
--- there are 1 to 24 rows, or else their number is a fault
+-- there are 1 to LETTER_LIMIT rows, or else their number is a fault
 unfoldable pub letters_fault : List (List ℤ) → Option TableFault
 letters_fault rows = if nat_le 1 (length rows) && nat_le (length rows) LETTER_LIMIT then None else Some (letters (length rows))
 

@@ -19,7 +19,7 @@ image rack i j = entry rack.letters rack.entries i j
 abbrev pub with_scalars : FieldValue → RackEntries → List ℕ → BraidValue
 with_scalars field rack scalars = record { field = field; letters = rack.letters; rack = rack.entries; cocycle = scalars }
 
--- 1 to 24 letters, and each entry is one of them
+-- 1 to LETTER_LIMIT letters, and each entry is one of them
 pub record IsRackTable (rack : RackEntries) : Type 0 where
   pub least : 1 ≤ rack.letters
   pub most : rack.letters ≤ LETTER_LIMIT

@@ -19,7 +19,7 @@ use nichols_field::Field;
 use std::alloc::{AllocError, Global};
 use std::marker::Model;
 
-/// A braiding of rack type: a rack of 1 to 24 letters with a 2-cocycle.
+/// A braiding of rack type: a rack of 1 to `LETTER_LIMIT` letters with a 2-cocycle.
 ///
 /// The letters are the numbers from 1 to n. The source is Andruskiewitsch and Graña,
 /// "From racks to pointed Hopf algebras".
@@ -87,7 +87,7 @@ impl Braid {
         self.field
     }
 
-    /// The number of letters, from 1 to 24.
+    /// The number of letters, from 1 to `LETTER_LIMIT`.
     pub fn letters(&self) -> u8
         ensures { result ≡ self.now.letters }
     {

@@ -13,7 +13,7 @@ use std::fmt;
 /// The faults are looked for in this order. Letters, rows and columns count from 1, and n is the number of rows.
 #[derive(Clone, Copy, Debug, PartialEq, Eq)]
 pub enum BraidFault {
-    /// There are so many rows, which is 0 or above 24.
+    /// There are so many rows, which is 0 or above [`LETTER_LIMIT`].
     Letters(usize),
     /// The row of this number has not n entries.
     RackShape(usize),

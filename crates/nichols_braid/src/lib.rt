@@ -13,6 +13,7 @@ mod transposition;
 
 pub use braid::Braid;
 pub use faults::BraidFault;
+use nichols_tensor::WORD_LIMIT;
 pub use product::Product;
 pub use products::{Products, ProductsFault};
 pub use tables::Scalars;
@@ -23,8 +24,8 @@ pub const POINTS_LEAST: u32 = 3;
 /// The greatest number of points whose transpositions are made a braid.
 pub const POINTS_MOST: u32 = 7;
 
-/// The greatest degree of an algebra that is made.
-pub const MOST_DEGREES: u32 = 60;
+/// The greatest degree of an algebra that is made: that of the longest words.
+pub const MOST_DEGREES: u32 = WORD_LIMIT as u32;
 
 /// The greatest number of products that a degree is made with.
 pub const MOST_PRODUCTS: usize = 5_040;

@@ -16,7 +16,7 @@ const ROOM: usize = LETTER_LIMIT as usize;
 
 /// The product of a word: the composite of its letters' maps, as the images of the letters from 1 on.
 ///
-/// It is a permutation of 1 to 24 letters. Products are ordered by their images from the first letter on.
+/// It is a permutation of 1 to [`LETTER_LIMIT`] letters. Products are ordered by their images from the first letter on.
 #[derive(Clone, Copy)]
 pub struct Product {
     letters: u8,

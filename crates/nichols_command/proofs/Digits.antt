@@ -7,6 +7,7 @@ use Rattle.std.proofs.lemmas.Bool.Decides.{nat_tests}
 use Rattle.std.proofs.lemmas.List.Sums.{fold_more}
 use Rattle.nichols_command.specs.Numbers.{digits_value}
 use Rattle.std.proofs.lemmas.Bool.{and_parts}
+use Rattle.nichols_command.specs.declared.limits.TheConstants.{DIGITS_MOST}
 
 one_digit : (c : ℕ) → is_ascii_digit c ≡ true → (48 ≤ c) × (c ≤ 57)
 one_digit c h = (grind (arith, nat_tests), grind (arith, nat_tests))
@@ -22,8 +23,8 @@ ten_next i = let e : i + 1 ≡ suc i = omega arith in ap (λ k. 10 ^ k) e ∙ po
 pub ten_more : (i n d : ℕ) → n < 10 ^ i → d ≤ 9 → n * 10 + d < 10 ^ (i + 1)
 ten_more i n d h k = let e : 10 ^ (i + 1) ≡ 10 ^ i * 10 = ten_next i in omega arith
 
-pub ten_fits : (i n : ℕ) → n < 10 ^ i → i ≤ 8 → n < 100000000
-ten_fits i n h k = let p : 10 ^ i ≤ 10 ^ 8 = pow-le-pow_right (omega arith) k in omega arith
+pub ten_fits : (i n : ℕ) → n < 10 ^ i → i < DIGITS_MOST → n < 10 ^ (DIGITS_MOST - 1)
+ten_fits i n h k = let p : 10 ^ i ≤ 10 ^ (DIGITS_MOST - 1) = pow-le-pow_right (omega arith) (let e : i ≤ DIGITS_MOST - 1 = omega (arith, k) in e) in omega arith
 
 pub value_more : (text : List ℕ) (i : ℕ) → i < length text → digits_value (take (i + 1) text) ≡ digits_value (take i text) * 10 + (get_or text i 0 - 48)
 unfolding digits_value

@@ -10,7 +10,7 @@ use Rattle.clap.specs.Faults.{fault_of, built_fault, default_fault, defaults_fau
 use Rattle.clap.specs.Kinds.{Kinds, or_else}
 use Rattle.clap.specs.declared.parser.matches.ValueSource.TheVariants.{DefaultValue}
 use Rattle.nichols_command.specs.Texts.{nichols_app, texts_of, texts_of_rows, unless_fault}
-use Rattle.nichols_command.specs.PlainForm.{Valued, degree, rows, workers, window, valued_name, PlainOption, value_at, PlainLine, IsPlain, line_words, line_texts, PlainLinesAreTaken, PlainLinesAreCommands}
+use Rattle.nichols_command.specs.PlainForm.{Valued, degree, rows, workers, window, valued_name, PlainOption, option_value_at, PlainLine, IsPlain, line_words, line_texts, PlainLinesAreTaken, PlainLinesAreCommands}
 use Rattle.nichols_command.specs.Command.{command_of, command_of_texts}
 use Rattle.nichols_command.proofs.PlainRows.{option_rule, brief_rule, text_row, option_row, row_behind, first_of_options, value_of_row, no_such_option}
 use Rattle.nichols_command.proofs.PlainWalk.{shape, command_place, points_place, Reaches, command_row, points_rows, once_only, over_line, next_place}
@@ -141,10 +141,10 @@ with_behind false line = append_assoc (points_rows line.points) (map option_row 
 
 -- an option's text isn't looked for in the two places, nor behind
 valued_text : (v : Valued) (command : Text) (points : Option Text) (options : List PlainOption) (b : Bool) →
-    first_of (valued_name v) (command_row command ∷ points_rows points ++ (map option_row options ++ behind b)) ≡ value_at (valued_name v) options
+    first_of (valued_name v) (command_row command ∷ points_rows points ++ (map option_row options ++ behind b)) ≡ option_value_at (valued_name v) options
 valued_text v command points options b =
-    skipped v points (map option_row options ++ behind b) ∙ first_of_options (valued_name v) options (behind b) ∙ ap (option_or (value_at (valued_name v) options)) (none v b)
-    ∙ nothing_else (value_at (valued_name v) options)
+    skipped v points (map option_row options ++ behind b) ∙ first_of_options (valued_name v) options (behind b) ∙ ap (option_or (option_value_at (valued_name v) options)) (none v b)
+    ∙ nothing_else (option_value_at (valued_name v) options)
   where
     skipped : (v : Valued) (points : Option Text) (more : List Row) → first_of (valued_name v) (command_row command ∷ points_rows points ++ more) ≡ first_of (valued_name v) more
     skipped degree None more = refl
@@ -172,7 +172,7 @@ points_text command None options b = first_of_options (codes "points") options (
     none false = refl
 
 flag_text : (command : Text) (points : Option Text) (options : List PlainOption) (b : Bool) → has_row (codes "brief") (points_rows points ++ map option_row options) ≡ b →
-    first_of (codes "brief") (command_row command ∷ points_rows points ++ (map option_row options ++ behind b)) ≡ Some (unwrap_or (value_at (codes "brief") options) (codes "false"))
+    first_of (codes "brief") (command_row command ∷ points_rows points ++ (map option_row options ++ behind b)) ≡ Some (unwrap_or (option_value_at (codes "brief") options) (codes "false"))
 flag_text command points options b e = skipped points (map option_row options ++ behind b) ∙ first_of_options (codes "brief") options (behind b) ∙ told b (sym (row_skipped points (map option_row options)) ∙ e)
   where
     skipped : (points : Option Text) (more : List Row) → first_of (codes "brief") (command_row command ∷ points_rows points ++ more) ≡ first_of (codes "brief") more
@@ -191,9 +191,9 @@ flag_text command points options b e = skipped points (map option_row options ++
     default None = refl
     default (Some text) = refl
 
-    told : (b : Bool) → has_row (codes "brief") (map option_row options) ≡ b → option_or (value_at (codes "brief") options) (first_of (codes "brief") (behind b)) ≡ Some (unwrap_or (value_at (codes "brief") options) (codes "false"))
-    told true e = there (value_at (codes "brief") options) (value_of_row (codes "brief") options e)
-    told false e = default (value_at (codes "brief") options)
+    told : (b : Bool) → has_row (codes "brief") (map option_row options) ≡ b → option_or (option_value_at (codes "brief") options) (first_of (codes "brief") (behind b)) ≡ Some (unwrap_or (option_value_at (codes "brief") options) (codes "false"))
+    told true e = there (option_value_at (codes "brief") options) (value_of_row (codes "brief") options e)
+    told false e = default (option_value_at (codes "brief") options)
 
 texts_are : (command : Text) (points : Option Text) (options : List PlainOption) (b : Bool) → has_row (codes "brief") (points_rows points ++ map option_row options) ≡ b →
     texts_of_rows (command_row command ∷ points_rows points ++ (map option_row options ++ behind b)) ≡ line_texts (record { command = command; points = points; options = options })

@@ -10,7 +10,7 @@ use Rattle.clap.specs.declared.parser.matches.ValueSource.TheVariants.{CommandLi
 use Rattle.clap.specs.declared.builder.value_parser.Reading.{Reading}
 use Rattle.clap.specs.Simple.{filled}
 use Rattle.nichols_command.specs.Texts.{value_rule, flag_rule}
-use Rattle.nichols_command.specs.PlainForm.{degree, rows, workers, window, PlainOption, apart, joined, brief, valued_name, option_name, option_value, value_at}
+use Rattle.nichols_command.specs.PlainForm.{degree, rows, workers, window, PlainOption, apart, joined, brief, valued_name, option_name, option_value, option_value_at}
 
 -- the row of one text
 abbrev pub text_row : Text → Reading → ValueSource → Text → Row
@@ -59,22 +59,22 @@ has_row-append id (r ∷ rs) more e f =
 -- ---- texts of rows
 
 -- the first text of an id in rows of options, and where they have none that in the rows behind
-pub first_of_options : (id : Text) (options : List PlainOption) (more : List Row) → first_of id (map option_row options ++ more) ≡ option_or (value_at id options) (first_of id more)
+pub first_of_options : (id : Text) (options : List PlainOption) (more : List Row) → first_of id (map option_row options ++ more) ≡ option_or (option_value_at id options) (first_of id more)
 first_of_options id [] more = refl
 first_of_options id (o ∷ options) more = at (bytes_eq (option_name o) id) (first_of_options id options more)
   where
-    at : (b : Bool) → first_of id (map option_row options ++ more) ≡ option_or (value_at id options) (first_of id more) →
+    at : (b : Bool) → first_of id (map option_row options ++ more) ≡ option_or (option_value_at id options) (first_of id more) →
         option_and_then (λ (r : Row). slice_get r.values 0) (cond b (Some (option_row o)) (find (λ r. bytes_eq r.id id) (map option_row options ++ more)))
         ≡ option_or (option_map option_value (cond b (Some o) (find (λ option. bytes_eq (option_name option) id) options))) (first_of id more)
     at true rest = refl
     at false rest = rest
 
 -- an option with a row is there
-pub value_of_row : (id : Text) (options : List PlainOption) → has_row id (map option_row options) ≡ true → is_some (value_at id options) ≡ true
+pub value_of_row : (id : Text) (options : List PlainOption) → has_row id (map option_row options) ≡ true → is_some (option_value_at id options) ≡ true
 value_of_row id [] e = e
 value_of_row id (o ∷ options) e = at (bytes_eq (option_name o) id) e (value_of_row id options)
   where
-    at : (b : Bool) → (b || has_row id (map option_row options)) ≡ true → (has_row id (map option_row options) ≡ true → is_some (value_at id options) ≡ true) →
+    at : (b : Bool) → (b || has_row id (map option_row options)) ≡ true → (has_row id (map option_row options) ≡ true → is_some (option_value_at id options) ≡ true) →
         is_some (option_map option_value (cond b (Some o) (find (λ option. bytes_eq (option_name option) id) options))) ≡ true
     at true e rest = refl
     at false e rest = rest e
@@ -91,6 +91,6 @@ other_name (joined workers value) = refl
 other_name (joined window value) = refl
 other_name brief = refl
 
-pub no_such_option : (options : List PlainOption) → value_at (codes "points") options ≡ None
+pub no_such_option : (options : List PlainOption) → option_value_at (codes "points") options ≡ None
 no_such_option [] = refl
 no_such_option (o ∷ options) = rw (other_name o) (no_such_option options)

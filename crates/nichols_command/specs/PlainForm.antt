@@ -76,19 +76,19 @@ pub record IsPlain (line : PlainLine) : Type 0 where
 -- ---- what a line asks for
 
 -- what is written for the option with this name, where it is there, wherever it stands and in whichever form
-abbrev pub value_at : Text → List PlainOption → Option Text
-value_at name options = option_map option_value (find (λ option. bytes_eq (option_name option) name) options)
+abbrev pub option_value_at : Text → List PlainOption → Option Text
+option_value_at name options = option_map option_value (find (λ option. bytes_eq (option_name option) name) options)
 
 -- the texts of a line: its words and values as they are written
 abbrev pub line_texts : PlainLine → Texts
 line_texts line = record {
   command = Some line.command;
   points = line.points;
-  degree = value_at (codes "degree") line.options;
-  rows = value_at (codes "rows") line.options;
-  workers = value_at (codes "workers") line.options;
-  window = value_at (codes "window") line.options;
-  brief = Some (unwrap_or (value_at (codes "brief") line.options) (codes "false"));
+  degree = option_value_at (codes "degree") line.options;
+  rows = option_value_at (codes "rows") line.options;
+  workers = option_value_at (codes "workers") line.options;
+  window = option_value_at (codes "window") line.options;
+  brief = Some (unwrap_or (option_value_at (codes "brief") line.options) (codes "false"));
 }
 
 -- clap finds no fault in a plain line, and takes its values as they are written

@@ -10,7 +10,7 @@ use Rattle.nichols_core.specs.declared.stage.Stage.TheVariants.{Ready, Held, Par
 use Rattle.nichols_core.specs.Layout.{LayoutValue, IsLayout, no_edge, edge_at}
 use Rattle.nichols_core.specs.Machine.{Machine, by_edge, is_published, is_parked, is_resumed, can, effect, after, pick}
 use Rattle.nichols_core.specs.SixLaws.{SixLaws}
-use Rattle.nichols_core.specs.Runs.{start, run, state_reached, one_if, times_from, publishes, parks, resumes, releases, picks, lays, EveryRunMeetsTheSixLaws, ABlockHasOneHolder, ABlockIsPublishedOnce, APublishedBlockStaysSo, EachParkingIsResumedOnce, EachResumptionIsReleasedOnce, APublicationResumesWhatWaits, APickerHoldsUntilPublication, AnEdgeIsPickedOnce, AnEdgeIsLaidOnce, IsIdle, WhereNothingIsOwedAllIsPublished}
+use Rattle.nichols_core.specs.Runs.{start, run, state_reached, one_if, how_often_from, publishes, parks, resumes, releases, picks, lays, EveryRunMeetsTheSixLaws, ABlockHasOneHolder, ABlockIsPublishedOnce, APublishedBlockStaysSo, EachParkingIsResumedOnce, EachResumptionIsReleasedOnce, APublicationResumesWhatWaits, APickerHoldsUntilPublication, AnEdgeIsPickedOnce, AnEdgeIsLaidOnce, IsIdle, WhereNothingIsOwedAllIsPublished}
 use Rattle.nichols_core.proofs.Stages.{put_here, resumed_by_publication}
 use Rattle.nichols_core.proofs.EdgesFound.{into_is}
 use Rattle.nichols_core.proofs.Passes.{passes}
@@ -85,8 +85,8 @@ a_published_block_stays_so l rules events later b is =
 -- two counts over a run, where each event keeps their balance
 balanced : (es : List Edge) (p q : Event → Machine → Bool) (f : Machine → ℕ)
     → ((e : Event) (m : Machine) → one_if (p e m) + f m ≡ one_if (q e m) + f (after es e m))
-    → (events : List Event) (m : Machine) → times_from es p events m + f m ≡ times_from es q events m + f (run es events m)
-unfolding run times_from
+    → (events : List Event) (m : Machine) → how_often_from es p events m + f m ≡ how_often_from es q events m + f (run es events m)
+unfolding run how_often_from
 balanced es p q f keeps [] m = refl
 balanced es p q f keeps (e ∷ later) m =
     let now = keeps e m in
@@ -96,8 +96,8 @@ balanced es p q f keeps (e ∷ later) m =
 -- a count over a run that each event keeps
 counted : (es : List Edge) (p : Event → Machine → Bool) (f : Machine → ℕ)
     → ((e : Event) (m : Machine) → one_if (p e m) + f m ≡ f (after es e m))
-    → (events : List Event) (m : Machine) → times_from es p events m + f m ≡ f (run es events m)
-unfolding run times_from
+    → (events : List Event) (m : Machine) → how_often_from es p events m + f m ≡ f (run es events m)
+unfolding run how_often_from
 counted es p f keeps [] m = zero-add (f m)
 counted es p f keeps (e ∷ later) m =
     let now = keeps e m in
@@ -109,7 +109,7 @@ a_block_is_published_once l rules events b inside =
     let es = l.edges in
     let m : Machine = start (length l.degrees) in
     let f : Machine → ℕ = λ n. one_if (is_published (n.stage b)) in
-    let count : times_from es (publishes b es) events m + f m ≡ f (run es events m) = counted es (publishes b es) f (λ e n. published_counted (n.stage b) ((after es e n).stage b) (publishes b es e n) (parks b es e n) (resumes b es e n) (releases b es e n) (step es n b e)) events m in
+    let count : how_often_from es (publishes b es) events m + f m ≡ f (run es events m) = counted es (publishes b es) f (λ e n. published_counted (n.stage b) ((after es e n).stage b) (publishes b es e n) (parks b es e n) (resumes b es e n) (releases b es e n) (step es n b e)) events m in
     let none : f m ≡ 0 = ap (λ t. one_if (is_published (cond t Ready Published))) (lt-ltb b (length l.degrees) inside) in
     omega arith
 
@@ -122,7 +122,7 @@ each_parking_is_resumed_once l rules events b =
     let es = l.edges in
     let m : Machine = start (length l.degrees) in
     let f : Machine → ℕ = λ n. one_if (is_parked (n.stage b)) in
-    let count : times_from es (parks b es) events m + f m ≡ times_from es (resumes b es) events m + f (run es events m) = balanced es (parks b es) (resumes b es) f (λ e n. parked_counted (n.stage b) ((after es e n).stage b) (publishes b es e n) (parks b es e n) (resumes b es e n) (releases b es e n) (step es n b e)) events m in
+    let count : how_often_from es (parks b es) events m + f m ≡ how_often_from es (resumes b es) events m + f (run es events m) = balanced es (parks b es) (resumes b es) f (λ e n. parked_counted (n.stage b) ((after es e n).stage b) (publishes b es e n) (parks b es e n) (resumes b es e n) (releases b es e n) (step es n b e)) events m in
     let none : f m ≡ 0 = not_at_start is_parked (ltb b (length l.degrees)) refl refl in
     omega arith
 
@@ -131,7 +131,7 @@ each_resumption_is_released_once l rules events b =
     let es = l.edges in
     let m : Machine = start (length l.degrees) in
     let f : Machine → ℕ = λ n. one_if (is_resumed (n.stage b)) in
-    let count : times_from es (resumes b es) events m + f m ≡ times_from es (releases b es) events m + f (run es events m) = balanced es (resumes b es) (releases b es) f (λ e n. resumed_counted (n.stage b) ((after es e n).stage b) (publishes b es e n) (parks b es e n) (resumes b es e n) (releases b es e n) (step es n b e)) events m in
+    let count : how_often_from es (resumes b es) events m + f m ≡ how_often_from es (releases b es) events m + f (run es events m) = balanced es (resumes b es) (releases b es) f (λ e n. resumed_counted (n.stage b) ((after es e n).stage b) (publishes b es e n) (parks b es e n) (resumes b es e n) (releases b es e n) (step es n b e)) events m in
     let none : f m ≡ 0 = not_at_start is_resumed (ltb b (length l.degrees)) refl refl in
     omega arith
 
@@ -140,7 +140,7 @@ an_edge_is_picked_once l rules events k =
     let es = l.edges in
     let m : Machine = start (length l.degrees) in
     let f : Machine → ℕ = λ n. one_if (n.picked k) in
-    let count : times_from es (picks k es) events m + f m ≡ f (run es events m) = counted es (picks k es) f (λ e n. picked_counted es n k e) events m in
+    let count : how_often_from es (picks k es) events m + f m ≡ f (run es events m) = counted es (picks k es) f (λ e n. picked_counted es n k e) events m in
     let none : f m ≡ 0 = refl in
     omega arith
 
@@ -149,7 +149,7 @@ an_edge_is_laid_once l rules events k =
     let es = l.edges in
     let m : Machine = start (length l.degrees) in
     let f : Machine → ℕ = λ n. one_if (n.laid k) in
-    let count : times_from es (lays k es) events m + f m ≡ f (run es events m) = counted es (lays k es) f (λ e n. laid_counted es n k e) events m in
+    let count : how_often_from es (lays k es) events m + f m ≡ f (run es events m) = counted es (lays k es) f (λ e n. laid_counted es n k e) events m in
     let none : f m ≡ 0 = refl in
     omega arith
 

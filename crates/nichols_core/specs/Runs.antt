@@ -31,12 +31,12 @@ abbrev pub one_if : Bool → ℕ
 one_if t = if t then 1 else 0
 
 -- how many events of a run pass a test, each in the state that it finds
-unfoldable pub times_from : List Edge → (Event → Machine → Bool) → List Event → Machine → ℕ
-times_from es p [] m = 0
-times_from es p (e ∷ later) m = one_if (p e m) + times_from es p later (after es e m)
+unfoldable pub how_often_from : List Edge → (Event → Machine → Bool) → List Event → Machine → ℕ
+how_often_from es p [] m = 0
+how_often_from es p (e ∷ later) m = one_if (p e m) + how_often_from es p later (after es e m)
 
-abbrev pub times : LayoutValue → (List Edge → Event → Machine → Bool) → List Event → ℕ
-times l p events = times_from l.edges (p l.edges) events (start (length l.degrees))
+abbrev pub how_often : LayoutValue → (List Edge → Event → Machine → Bool) → List Event → ℕ
+how_often l p events = how_often_from l.edges (p l.edges) events (start (length l.degrees))
 
 -- the event is applied and publishes b
 abbrev pub publishes : ℕ → List Edge → Event → Machine → Bool
@@ -84,7 +84,7 @@ ABlockHasOneHolder = (l : LayoutValue) → IsLayout l → (events : List Event) 
 -- a block is published by one event where it is published, and by none elsewhere
 abbrev pub ABlockIsPublishedOnce : Type 0
 ABlockIsPublishedOnce = (l : LayoutValue) → IsLayout l → (events : List Event) (b : ℕ) → b < length l.degrees
-    → times l (publishes b) events ≡ one_if (is_published ((state_reached l events).stage b))
+    → how_often l (publishes b) events ≡ one_if (is_published ((state_reached l events).stage b))
 
 abbrev pub APublishedBlockStaysSo : Type 0
 APublishedBlockStaysSo = (l : LayoutValue) → IsLayout l → (events later : List Event) (b : ℕ)
@@ -93,12 +93,12 @@ APublishedBlockStaysSo = (l : LayoutValue) → IsLayout l → (events later : Li
 -- the parkings of a block are its resumptions, and one more where it is parked
 abbrev pub EachParkingIsResumedOnce : Type 0
 EachParkingIsResumedOnce = (l : LayoutValue) → IsLayout l → (events : List Event) (b : ℕ)
-    → times l (parks b) events ≡ times l (resumes b) events + one_if (is_parked ((state_reached l events).stage b))
+    → how_often l (parks b) events ≡ how_often l (resumes b) events + one_if (is_parked ((state_reached l events).stage b))
 
 -- the resumptions of a block are its releases, and one more where it is resumed
 abbrev pub EachResumptionIsReleasedOnce : Type 0
 EachResumptionIsReleasedOnce = (l : LayoutValue) → IsLayout l → (events : List Event) (b : ℕ)
-    → times l (resumes b) events ≡ times l (releases b) events + one_if (is_resumed ((state_reached l events).stage b))
+    → how_often l (resumes b) events ≡ how_often l (releases b) events + one_if (is_resumed ((state_reached l events).stage b))
 
 -- the publication of a block resumes each block that is parked on it
 abbrev pub APublicationResumesWhatWaits : Type 0
@@ -115,12 +115,12 @@ APickerHoldsUntilPublication = (l : LayoutValue) → IsLayout l → (events late
 -- an edge is picked by one event where it is picked, and by none elsewhere
 abbrev pub AnEdgeIsPickedOnce : Type 0
 AnEdgeIsPickedOnce = (l : LayoutValue) → IsLayout l → (events : List Event) (k : ℕ)
-    → times l (picks k) events ≡ one_if ((state_reached l events).picked k)
+    → how_often l (picks k) events ≡ one_if ((state_reached l events).picked k)
 
 -- an edge is laid by one event where it is laid, and by none elsewhere
 abbrev pub AnEdgeIsLaidOnce : Type 0
 AnEdgeIsLaidOnce = (l : LayoutValue) → IsLayout l → (events : List Event) (k : ℕ)
-    → times l (lays k) events ≡ one_if ((state_reached l events).laid k)
+    → how_often l (lays k) events ≡ one_if ((state_reached l events).laid k)
 
 -- no worker holds the block, has resumed it or owes it
 abbrev pub IsIdle : Machine → ℕ → Type 0

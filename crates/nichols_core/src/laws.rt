@@ -1,6 +1,7 @@
-//! The laws of the machine, each the contract of a function that does nothing: for every layout and every
-//! list of events from the start, and the last one for every state that meets the six laws. The first two say
-//! what the tests of the definitions mean.
+//! The laws of the machine, each the contract of a function that does nothing. Those on runs are for every layout
+//! and every list of events from the start. The first two say what the tests of the definitions mean, and the
+//! third what an event changes, in any state. That events keep the six laws, that debts may pass and be taken
+//! over, and the last law are for every state that meets the six laws.
 
 ghost use Rattle.nichols_core.specs.Conditions.{AnEdgeIsFoundByItsLetter, AConditionIsWhatItAsks};
 ghost use Rattle.nichols_core.specs.Changes.{AnEventChangesThisAlone, DebtsMayPass, AWorkerMayTakeOverDebts};

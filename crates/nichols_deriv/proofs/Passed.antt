@@ -2,7 +2,8 @@
 use Rattle.std.proofs.Common.{◌≡◌, ◌≢◌, ℕ, zero, suc, ◌+◌, ◌-◌, ◌<◌, ◌≤◌, Bool, true, false, cond, List, [], ◌∷◌, ◌++◌, length, map, take, drop, set, get_or, refl, sym, ◌∙◌, ap, ap₂, arith, subst, append_assoc, nat_eq, if◌then◌else◌}
 use Rattle.std.proofs.Math.Seq.{drop-cons, take-suc, drop-length, set-append_seam}
 use Rattle.std.proofs.lemmas.List.{append-nil, drop_all, length-take-le, map-append, map-id}
-use Rattle.std.proofs.lemmas.Bool.Decides.{nat_tests, Decides-eqb}
+use Rattle.std.proofs.lemmas.Bool.Decides.{Decides-eqb}
+use Rattle.std.proofs.lemmas.Bool.{ne_eqb}
 use Rattle.nichols_field.specs.Field.{FieldValue, IsField, IsElement, plus, times}
 use Rattle.nichols_field.proofs.FieldLaws.{plus_assoc, plus_comm, plus_zero, times_is_element, times_one, times_assoc, times_comm}
 use Rattle.nichols_field.proofs.FieldAlgebra.{zero_plus, chosen_is_element}
@@ -140,7 +141,7 @@ passing-other braid is a c w before (suc m) n passed met out some e h x at other
     (let within : m < length w = let i : suc m ≤ length w = h.within in omega arith in
     let here : x ≡ get_or w m 0 = at ∙ ap (λ i. get_or w i 0) same in
     let k : FieldValue = braid.field in
-    let apart : nat_eq a (get_or w m 0) ≡ false = ap (nat_eq a) (sym here) ∙ different a x other in
+    let apart : nat_eq a (get_or w m 0) ≡ false = ap (nat_eq a) (sym here) ∙ ne_eqb a x other in
     record {
       within = omega arith;
       word = word ∙ ap₂ (λ i y. stepped braid a i passed y) same here ∙ stepped_word braid a w m passed within (h.word ∙ ap (λ i. take i w ++ map (act braid a) (drop (i + 1) w)) (let less : suc m - 1 ≡ m = omega arith in less));
@@ -152,9 +153,6 @@ passing-other braid is a c w before (suc m) n passed met out some e h x at other
   where
     rest : List ℕ → ℕ
     rest v = value_at braid.field (contributed braid a c (take (suc m) w) (drop (suc m) w)) v
-
-    different : (a x : ℕ) → a ≢ x → nat_eq a x ≡ false
-    different a x d = grind (arith, nat_tests)
 
 -- a step at a letter a
 pub passing-here : (braid : BraidValue) → IsField braid.field → (a c : ℕ) (w : List ℕ) (before : Combination) (left n : ℕ) (passed : List ℕ) (met : ℕ) (out : Combination) → 0 < left → n ≡ left - 1 → IsPassing braid a c w before left passed met out →

@@ -1,8 +1,6 @@
 use super::*;
 use nichols_braid::Braid;
-use nichols_testing::{
-    braid_with_constant, braid_with_table, has_terms, three_transpositions, word_over,
-};
+use nichols_testing::{has_terms, one_letter, three_transpositions, two_letters, word_over};
 use nichols_words::Comb;
 use std::alloc::Global;
 use std::test::Fail;
@@ -40,7 +38,7 @@ fn over_the_three_transpositions(rt: HostRuntime) -> Result<(), Fail> {
 /// Over the trivial rack of two letters `q(2, 1)` is not `q(1, 2)`.
 #[test]
 fn the_letter_that_passes_stands_first(rt: HostRuntime) -> Result<(), Fail> {
-    let two = braid_with_table(rt.alloc(), 101, &[&[1, 2], &[1, 2]], &[&[-1, 1], &[-1, -1]])?;
+    let two = two_letters(rt.alloc())?;
     let found = derivative(rt.alloc(), &two, 2, "2.1")?;
     assert!(rt; has_terms(&found, &[("1", 100)]));
     Ok(())
@@ -49,7 +47,7 @@ fn the_letter_that_passes_stands_first(rt: HostRuntime) -> Result<(), Fail> {
 /// Over one letter with scalar 2 the derivatives of the powers are 1, 1 + 2 and 1 + 2 + 4, which is 0 over 7 elements.
 #[test]
 fn powers_of_one_letter(rt: HostRuntime) -> Result<(), Fail> {
-    let one = braid_with_constant(rt.alloc(), 7, &[&[1]], 2)?;
+    let one = one_letter(rt.alloc())?;
     let rows: [Row; 3] = [
         (1, "1", &[("", 1)]),
         (1, "1.1", &[("1", 3)]),

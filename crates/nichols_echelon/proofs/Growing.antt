@@ -2,6 +2,7 @@
 use Rattle.std.proofs.Common.{◌≡◌, ◌<◌, ◌+◌, ◌⊎◌, ℕ, List, [], ◌∷◌, ◌++◌, Option, Some, None, refl, sym, ◌∙◌, ap, ap₂, subst, arith, inl, inr, length, get_or, set, get_or-set_same, get_or-set_other}
 use Rattle.std.proofs.lemmas.Bool.{cases_eq}
 use Rattle.std.proofs.lemmas.List.{get_or_append_left, get_or_push, length_push, length-set}
+use Rattle.std.proofs.lemmas.Option.{same_Some, none-some}
 use Rattle.nichols_field.specs.Field.{FieldValue, plus}
 use Rattle.nichols_echelon.specs.Cells.{Cell, entry, AllElements, AllBelow}
 use Rattle.nichols_echelon.specs.Combination.{row_at, combined_entry, IsDependent}
@@ -11,7 +12,7 @@ use Rattle.nichols_echelon.specs.NextRow.{Follows}
 use Rattle.nichols_echelon.specs.declared.rows.Place.{Place}
 use Rattle.nichols_echelon.specs.declared.rows.Place.TheVariants.{Independent, Depends}
 use Rattle.nichols_echelon.proofs.Shapes.{all_both}
-use Rattle.nichols_echelon.proofs.Kept.{none_some, one_more, kept_before, kept_last, combined_kept}
+use Rattle.nichols_echelon.proofs.Kept.{one_more, kept_before, kept_last, combined_kept}
 use Rattle.nichols_tensor.proofs.Over.{all-weaker}
 
 -- a table of columns that knows what the old one knew, and of one more row where it ends
@@ -28,9 +29,6 @@ pub record IsAdded (k : FieldValue) (rows left : List (List Cell)) (pivots : Lis
   pub elements : AllElements k (kept_row (row_at rows (length left)) l)
   pub below : AllBelow (length pivots) (kept_row (row_at rows (length left)) l)
 
-some_same : (i j : ℕ) → ◌≡◌ {A = Option ℕ} (Some i) (Some j) → i ≡ j
-some_same i j e = cc
-
 pub knows_same : (k : FieldValue) (rows left : List (List Cell)) (l : List Cell) (factor : ℕ) (pivots : List (Option ℕ)) → KnowsMore k rows left l factor pivots pivots
 knows_same k rows left l factor pivots = record { width = refl; stays = λ column i h. h; knows = λ column i h. inl h }
 
@@ -38,12 +36,12 @@ pub knows_new : (k : FieldValue) (rows left : List (List Cell)) (l : List Cell) 
     IsPivot k (kept_row (row_at rows (length left)) l) factor column → KnowsMore k rows left l factor pivots (set pivots column (Some (length left)))
 knows_new k rows left l factor column pivots free inside p = record {
   width = length-set pivots column (Some (length left));
-  stays = λ x i h. get_or-set_other pivots column x (Some (length left)) None (λ same. none_some i (sym free ∙ ap (pivot_at pivots) (sym same) ∙ h)) ∙ h;
+  stays = λ x i h. get_or-set_other pivots column x (Some (length left)) None (λ same. none-some i (sym free ∙ ap (pivot_at pivots) (sym same) ∙ h)) ∙ h;
   knows = λ x i h.
       elim (cases_eq x column) [
         | inl here ↦
             inr (
-              sym (some_same (length left) i (sym (get_or-set_same pivots column (Some (length left)) None inside) ∙ ap (pivot_at (set pivots column (Some (length left)))) (sym here) ∙ h)),
+              sym (same_Some (length left) i (sym (get_or-set_same pivots column (Some (length left)) None inside) ∙ ap (pivot_at (set pivots column (Some (length left)))) (sym here) ∙ h)),
               subst (IsPivot k (kept_row (row_at rows (length left)) l) factor) (sym here) p,
             )
         | inr other ↦ inl (sym (get_or-set_other pivots column x (Some (length left)) None other) ∙ h)

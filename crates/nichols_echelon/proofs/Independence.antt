@@ -2,6 +2,7 @@
 use Rattle.std.proofs.Common.{◌≡◌, ◌≢◌, ◌<◌, ℕ, List, Option, Some, None, refl, sym, ◌∙◌, arith, inl, inr, length, get_or}
 use Rattle.std.proofs.lemmas.Bool.{cases_lt}
 use Rattle.std.proofs.lemmas.List.{get_or_past}
+use Rattle.std.proofs.lemmas.Option.{none-some}
 use Rattle.nichols_field.specs.Field.{FieldValue, IsField, plus}
 use Rattle.nichols_echelon.specs.Cells.{Cell, entry}
 use Rattle.nichols_echelon.specs.Combination.{row_at, combined_entry, IsDependent}
@@ -12,7 +13,6 @@ use Rattle.nichols_echelon.specs.declared.rows.Place.{Place}
 use Rattle.nichols_echelon.specs.declared.rows.Place.TheVariants.{Independent, Depends}
 use Rattle.nichols_echelon.proofs.Shapes.{all_both}
 use Rattle.nichols_echelon.proofs.Entries.{entry_is_element}
-use Rattle.nichols_echelon.proofs.Kept.{none_some}
 use Rattle.nichols_echelon.proofs.Clearing.{cleared, cleared-same, cleared-kept, cleared-combined, cleared-made, cleared-free, cleared_is_element}
 use Rattle.nichols_tensor.proofs.Over.{all-weaker}
 
@@ -21,7 +21,7 @@ pub claimed_inside : (pivots : List (Option ℕ)) (column i : ℕ) → pivot_at 
 claimed_inside pivots column i claimed =
     elim (cases_lt column (length pivots)) [
       | inl inside ↦ inside
-      | inr past ↦ absurd (none_some i (sym (get_or_past pivots column None past) ∙ claimed))
+      | inr past ↦ absurd (none-some i (sym (get_or_past pivots column None past) ∙ claimed))
     ]
 
 module _ (k : FieldValue) (is : IsField k) (rows left steps : List (List Cell)) (factors : List ℕ) (pivots : List (Option ℕ)) (e : IsEchelon k rows left steps factors pivots) where

@@ -1,5 +1,5 @@
 -- Kept rows, and the column at which each ends.
-use Rattle.std.proofs.Common.{◌≡◌, ◌≢◌, ◌<◌, ◌+◌, ℕ, zero, suc, List, [], ◌∷◌, ◌++◌, refl, sym, ◌∙◌, ap, ap₂, subst, arith, inl, inr, length, get_or, Option, Some, None}
+use Rattle.std.proofs.Common.{◌≡◌, ◌≢◌, ◌<◌, ◌+◌, ℕ, zero, suc, List, [], ◌∷◌, ◌++◌, refl, sym, ◌∙◌, ap, ap₂, subst, arith, inl, inr, length, get_or, Option, None}
 use Rattle.std.proofs.lemmas.Bool.{cases_lt}
 use Rattle.std.proofs.lemmas.List.{get_or_append_left, get_or_push, get_or_default}
 use Rattle.nichols_field.specs.Field.{FieldValue, IsField, IsElement, plus, times, negative}
@@ -11,9 +11,6 @@ use Rattle.nichols_echelon.specs.Echelon.{kept_row, kept_rows, pivot_at, IsPivot
 use Rattle.nichols_echelon.proofs.Shapes.{all_back, row_last}
 use Rattle.nichols_echelon.proofs.Entries.{entry-push, entry_is_element, entry_beyond, cell_here, cell_elsewhere}
 use Rattle.nichols_echelon.proofs.Combinations.{combined_alike}
-
-pub none_some : (i : ℕ) → ◌≡◌ {A = Option ℕ} None (Some i) → ⊥
-none_some i e = cc
 
 -- the entry of the table that was read at a column
 pub pivot_read : (pivots : List (Option ℕ)) (column : ℕ) (read o : Option ℕ) → column < length pivots → read ≡ get_or pivots column read → read ≡ o → pivot_at pivots column ≡ o

@@ -12,9 +12,8 @@ use Rattle.nichols_echelon.specs.Sums.{sum_at, IsZero, IsZeroFrom, IsTaken, IsSa
 use Rattle.nichols_echelon.specs.Sweep.{IsTraced}
 use Rattle.nichols_echelon.proofs.Summing.{sum_is_element}
 use Rattle.nichols_echelon.proofs.Shapes.{all_push, row_nil, row_cons}
-use Rattle.nichols_echelon.proofs.Entries.{entry-nil, entry-cons, entry-push, entry-append, entry-scaled, entry_is_element, entry_beyond, cell_here, cell_elsewhere, scaled}
-use Rattle.nichols_echelon.proofs.Combinations.{combined_entry-nil, combined_entry-cons, combined_entry-push, combined_entry-append, combined_entry-scaled, combined_is_element, combined_from_entries, all_below-scaled}
-use Rattle.nichols_tensor.proofs.Over.{all-append}
+use Rattle.nichols_echelon.proofs.Entries.{entry-nil, entry-cons, entry-push, entry-append, entry-scalar_multiple, entry_is_element, entry_beyond, cell_here, cell_elsewhere, scalar_multiple}
+use Rattle.nichols_echelon.proofs.Combinations.{combined_entry-nil, combined_entry-cons, combined_entry-push, combined_entry-append, combined_entry-scalar_multiple, combined_is_element, combined_from_entries}
 
 -- F + -x S and x (C + S) + O are F + x C and O
 pub traced_sum : (k : FieldValue) → IsField k → (f s x c o : ℕ) → IsElement k x → plus k (plus k f (times k (negative k x) s)) (plus k (times k x (plus k c s)) o) ≡ plus k (plus k f (times k x c)) o
@@ -95,7 +94,7 @@ retrace_start k is pivots all steps old values none wide are loaded =
     record {
       value = λ rows kept made x.
           ap₂ (plus k)
-          (combined_from_entries k is kept (length all) (table k values (length all)) steps (all_below-table k values (length all) (length all) (omega arith)) are.below
+          (combined_from_entries k is kept (table k values (length all)) steps
           (λ j. table_entry k is values (length all) j zero ∙ at j) x)
           (combined_entry-nil k rows x) ∙ plus_zero k (combined_entry k kept steps x) (combined_is_element k is kept steps x);
       zero = zero;
@@ -122,8 +121,7 @@ module _ (k : FieldValue) (is : IsField k) (pivots : List (Option ℕ)) (all : L
   -- the sums are those that are left, and the one that was taken out
   apart : (kept : List (List Cell)) (x : ℕ) → combined_entry k kept (table k values end) x ≡ plus k (combined_entry k kept (table k taken cell.column) x) (times k cell.coefficient (entry k (row_at kept cell.column) x))
   apart kept x =
-      combined_from_entries k is kept end (table k values end) (table k taken cell.column ++ cell ∷ []) (all_below-table k values end end (omega arith))
-      (all_push (λ d. d.column < end) (table k taken cell.column) cell (all_below-table k taken cell.column end (omega (arith, before_end))) before_end)
+      combined_from_entries k is kept (table k values end) (table k taken cell.column ++ cell ∷ [])
       (λ j. table_entry k is values end j r.zero ∙ sym (entry-push k is (table k taken cell.column) cell j ∙ ap (λ m. plus k m (cell_value cell j)) (table_entry k is taken cell.column j t.gone) ∙ joined j)) x
       ∙ combined_entry-push k is kept (table k taken cell.column) cell x
     where
@@ -168,12 +166,11 @@ module _ (k : FieldValue) (is : IsField k) (pivots : List (Option ℕ)) (all : L
         let back : ℕ = negative k cell.coefficient in
         let low : List Cell = table k taken cell.column in
         let parts : List Cell = row_at all cell.column in
-        combined_from_entries k is kept cell.column (table k next cell.column) (low ++ scaled k back parts) (all_below-table k next cell.column cell.column (omega arith))
-        (all-append (λ d. d.column < cell.column) low (scaled k back parts) (all_below-table k taken cell.column cell.column (omega arith)) (all_below-scaled k back cell.column parts own.below))
+        combined_from_entries k is kept (table k next cell.column) (low ++ scalar_multiple k back parts)
         (λ j. table_entry k is next cell.column j next_zero ∙ sum j
-        ∙ sym (entry-append k is low (scaled k back parts) j ∙ ap₂ (plus k) (table_entry k is taken cell.column j t.gone) (entry-scaled k is back parts j))) x
-        ∙ combined_entry-append k is kept low (scaled k back parts) x
-        ∙ ap (plus k (combined_entry k kept low x)) (combined_entry-scaled k is kept back parts x)
+        ∙ sym (entry-append k is low (scalar_multiple k back parts) j ∙ ap₂ (plus k) (table_entry k is taken cell.column j t.gone) (entry-scalar_multiple k is back parts j))) x
+        ∙ combined_entry-append k is kept low (scalar_multiple k back parts) x
+        ∙ ap (plus k (combined_entry k kept low x)) (combined_entry-scalar_multiple k is kept back parts x)
 
     pub retrace_more : Retracing k pivots all steps next cell.column (cell ∷ out)
     retrace_more = record {
@@ -202,7 +199,7 @@ pub retraced_all : (k : FieldValue) → IsField k → (pivots : List (Option ℕ
 retraced_all k is pivots all steps values end out none r = record {
   value = λ rows kept made x.
       sym (ap (λ m. plus k m (combined_entry k rows out x))
-      (combined_from_entries k is kept end (table k values end) [] (all_below-table k values end end (omega arith)) tt (λ j. table_entry k is values end j r.zero ∙ none j ∙ sym (entry-nil k j)) x ∙ combined_entry-nil k kept x)
+      (combined_from_entries k is kept (table k values end) [] (λ j. table_entry k is values end j r.zero ∙ none j ∙ sym (entry-nil k j)) x ∙ combined_entry-nil k kept x)
       ∙ zero_plus k (combined_entry k rows out x) (combined_is_element k is rows out x)) ∙ r.value rows kept made x;
   shape = r.shape;
   elements = r.elements;

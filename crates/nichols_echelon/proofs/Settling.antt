@@ -2,6 +2,7 @@
 use Rattle.std.proofs.Common.{◌≡◌, ◌≢◌, ◌<◌, ◌≤◌, ℕ, List, [], ◌∷◌, ◌++◌, Option, Some, None, refl, sym, ◌∙◌, ap, ap₂, subst, arith, inl, inr, length, set, replicate, get_or-set_same, ◌+◌}
 use Rattle.std.proofs.lemmas.Bool.{cases_order, cases_lt}
 use Rattle.std.proofs.lemmas.List.{length_push, length-set, length-replicate, get_or-replicate, get_or_past}
+use Rattle.std.proofs.lemmas.Option.{none-some}
 use Rattle.nichols_field.specs.Field.{FieldValue, IsField, IsElement, plus, times, negative}
 use Rattle.nichols_field.proofs.FieldLaws.{plus_zero, zero_is_element}
 use Rattle.nichols_field.proofs.FieldAlgebra.{zero_plus, one_times}
@@ -19,7 +20,7 @@ use Rattle.nichols_echelon.specs.declared.rows.Place.TheVariants.{Independent, D
 use Rattle.nichols_echelon.proofs.Shapes.{all_back, row_last, row_of_all}
 use Rattle.nichols_echelon.proofs.Entries.{entry-nil, entry-push, entry_is_element, entry_beyond, cell_here, cell_elsewhere}
 use Rattle.nichols_echelon.proofs.Combinations.{combined_entry-nil, combined_is_element}
-use Rattle.nichols_echelon.proofs.Kept.{none_some, nothing_behind, nonzero_here}
+use Rattle.nichols_echelon.proofs.Kept.{nothing_behind, nonzero_here}
 use Rattle.nichols_echelon.proofs.Independence.{independent}
 use Rattle.nichols_echelon.proofs.Growing.{IsAdded, KnowsMore, knows_same, knows_new, echelon_more, independent_before, follows_kept, follows_spent}
 use Rattle.nichols_tensor.proofs.Over.{all-weaker}
@@ -245,12 +246,12 @@ holds_first k rows e l s f none = (
     are_steps = λ i h. absurd (omega (arith, h));
     elements = λ i h. absurd (omega (arith, h));
     below = λ i h. absurd (omega (arith, h));
-    known = λ column i h. absurd (none_some i (sym (none column) ∙ h));
+    known = λ column i h. absurd (none-some i (sym (none column) ∙ h));
   }),
   record {
     each = λ i h. absurd (omega (arith, h));
     claimed = λ i h. absurd (omega (arith, h));
-    independent = λ i h. absurd (none_some i (sym (none h.0) ∙ h.1));
+    independent = λ i h. absurd (none-some i (sym (none h.0) ∙ h.1));
   },
 )
 

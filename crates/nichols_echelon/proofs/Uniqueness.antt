@@ -11,8 +11,8 @@ use Rattle.nichols_echelon.specs.Split.{place_at, AllIndependent, IsPlace, IsSpl
 use Rattle.nichols_echelon.specs.declared.rows.Place.{Place}
 use Rattle.nichols_echelon.specs.declared.rows.Place.TheVariants.{Independent, Depends}
 use Rattle.nichols_echelon.proofs.Shapes.{all_both}
-use Rattle.nichols_echelon.proofs.Entries.{entry-nil, entry-cons, entry_is_element, entry-without_other, entry-without_same, scaled, without, cell_elsewhere, row_from_entries}
-use Rattle.nichols_echelon.proofs.Combinations.{combined_split, combined_entry-nil, combined_entry-scaled, combined_is_element, all_below-without, all_below-scaled, all_elements-scaled, difference, entry-difference, combined_entry-difference, all_below-difference}
+use Rattle.nichols_echelon.proofs.Entries.{entry-nil, entry-cons, entry_is_element, entry-without_other, entry-without_same, scalar_multiple, without, cell_elsewhere, row_from_entries}
+use Rattle.nichols_echelon.proofs.Combinations.{combined_split, combined_entry-nil, combined_entry-scalar_multiple, combined_is_element, all_below-without, all_below-scalar_multiple, all_elements-scalar_multiple, minus, entry-minus, combined_entry-minus, all_below-minus}
 use Rattle.nichols_tensor.proofs.Over.{all-append, all-weaker}
 
 -- a r + s ≡ 0 and a b ≡ 1 give r as a multiple of s
@@ -55,14 +55,14 @@ independent_zero k is rows (suc n) (c ∷ cells) below free none j =
 
     depends : (b : ℕ) → times k (entry k all n) b ≡ 1 → IsDependent k rows n
     depends b inverse = (
-      scaled k (times k (negative k 1) b) (without n all),
+      scalar_multiple k (times k (negative k 1) b) (without n all),
       record {
-        earlier = all_below-scaled k (times k (negative k 1) b) n (without n all) (all_below-without n all below);
-        elements = all_elements-scaled k is (times k (negative k 1) b) (without n all);
+        earlier = all_below-scalar_multiple k (times k (negative k 1) b) n (without n all) (all_below-without n all below);
+        elements = all_elements-scalar_multiple k is (times k (negative k 1) b) (without n all);
         value = λ column.
             solved k is (entry k all n) b (entry k (row_at rows n) column) (combined_entry k rows (without n all) column) (entry_is_element k is (row_at rows n) column) inverse
             (sym (combined_split k is rows n all column) ∙ none column)
-            ∙ sym (combined_entry-scaled k is rows (times k (negative k 1) b) (without n all) column);
+            ∙ sym (combined_entry-scalar_multiple k is rows (times k (negative k 1) b) (without n all) column);
       },
     )
 
@@ -86,14 +86,14 @@ free_entries k is rows (c ∷ cells) free j nonzero dependent =
           (λ e. nonzero (entry-cons k c cells j ∙ ap₂ (plus k) (cell_elsewhere c j other) e ∙ plus_zero k 0 (zero_is_element k is))) dependent
     ]
 
-free_scaled : (k : FieldValue) (rows : List (List Cell)) (a : ℕ) (cells : List Cell) → AllFree k rows cells → AllFree k rows (scaled k a cells)
-unfolding scaled
-free_scaled k rows a [] free = tt
-free_scaled k rows a (c ∷ cells) free = (free.0, free_scaled k rows a cells free.1)
+free_scalar_multiple : (k : FieldValue) (rows : List (List Cell)) (a : ℕ) (cells : List Cell) → AllFree k rows cells → AllFree k rows (scalar_multiple k a cells)
+unfolding scalar_multiple
+free_scalar_multiple k rows a [] free = tt
+free_scalar_multiple k rows a (c ∷ cells) free = (free.0, free_scalar_multiple k rows a cells free.1)
 
-free_difference : (k : FieldValue) (rows : List (List Cell)) (xs ys : List Cell) → AllFree k rows xs → AllFree k rows ys → AllFree k rows (difference k xs ys)
-unfolding difference
-free_difference k rows xs ys hx hy = all-append (λ c. IsDependent k rows c.column → ⊥) xs (scaled k (negative k 1) ys) hx (free_scaled k rows (negative k 1) ys hy)
+free_minus : (k : FieldValue) (rows : List (List Cell)) (xs ys : List Cell) → AllFree k rows xs → AllFree k rows ys → AllFree k rows (minus k xs ys)
+unfolding minus
+free_minus k rows xs ys hx hy = all-append (λ c. IsDependent k rows c.column → ⊥) xs (scalar_multiple k (negative k 1) ys) hx (free_scalar_multiple k rows (negative k 1) ys hy)
 
 -- two rows of positions of independent rows with the same combination are the same
 pub combination_is_unique : (k : FieldValue) → IsField k → (rows : List (List Cell)) (n : ℕ) (xs ys : List Cell) → IsRow xs → IsRow ys → AllElements k xs → AllElements k ys →
@@ -101,9 +101,9 @@ pub combination_is_unique : (k : FieldValue) → IsField k → (rows : List (Lis
 combination_is_unique k is rows n xs ys rx ry ex ey bx by fx fy same =
     row_from_entries k is xs ys rx ry ex ey
     (λ j. same_from_difference k (entry k xs j) (entry k ys j) is (entry_is_element k is xs j) (entry_is_element k is ys j)
-    (sym (entry-difference k is xs ys j)
-    ∙ independent_zero k is rows n (difference k xs ys) (all_below-difference k n xs ys bx by) (free_entries k is rows (difference k xs ys) (free_difference k rows xs ys fx fy))
-    (λ column. combined_entry-difference k is rows xs ys column ∙ ap (λ v. plus k v (times k (negative k 1) (combined_entry k rows ys column))) (same column) ∙ difference_of_same k (combined_entry k rows ys column) is) j))
+    (sym (entry-minus k is xs ys j)
+    ∙ independent_zero k is rows n (minus k xs ys) (all_below-minus k n xs ys bx by) (free_entries k is rows (minus k xs ys) (free_minus k rows xs ys fx fy))
+    (λ column. combined_entry-minus k is rows xs ys column ∙ ap (λ v. plus k v (times k (negative k 1) (combined_entry k rows ys column))) (same column) ∙ difference_of_same k (combined_entry k rows ys column) is) j))
 
 -- past the last row each position is dependent
 free_inside : (k : FieldValue) (rows : List (List Cell)) (j : ℕ) → (IsDependent k rows j → ⊥) → j < length rows

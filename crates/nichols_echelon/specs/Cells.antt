@@ -1,7 +1,8 @@
 -- Rows of a sparse matrix over the field: lists of cells.
-use Rattle.std.specs.Prelude.{◌≢◌, ◌<◌, ◌==◌, ℕ, List, [], ◌∷◌, if◌then◌else◌}
+use Rattle.std.specs.Prelude.{◌≢◌, ◌<◌, ◌==◌, ℕ, List, map, if◌then◌else◌}
 use Rattle.std.specs.List.{AllByRecursion}
-use Rattle.nichols_field.specs.Field.{FieldValue, IsElement, plus}
+use Rattle.nichols_field.specs.Field.{FieldValue, IsElement, sum_by}
+use Rattle.nichols_tensor.specs.Rising.{IsBeforeFirst, IsRisingBy}
 
 -- a cell as contracts see it: a column, and the coefficient there
 abbrev pub Cell : Type 0
@@ -13,23 +14,19 @@ cell_value c column = if c.column == column then c.coefficient else 0
 
 -- the entry of a row at a column: the sum of the coefficients there
 unfoldable pub entry : FieldValue → List Cell → ℕ → ℕ
-entry field [] column = 0
-entry field (c ∷ cells) column = plus field (cell_value c column) (entry field cells column)
+entry field cells column = sum_by field (λ c. cell_value c column) cells
 
 -- the columns of the cells
 abbrev pub columns_of : List Cell → List ℕ
-columns_of [] = []
-columns_of (c ∷ cells) = c.column ∷ columns_of cells
+columns_of cells = map (λ c. c.column) cells
 
 -- the column is less than the first of the list, if there is one
 abbrev pub IsBelowFirst : ℕ → List ℕ → Type 0
-IsBelowFirst column [] = Unit {0}
-IsBelowFirst column (d ∷ columns) = column < d
+IsBelowFirst column columns = IsBeforeFirst (λ c d. c < d) column columns
 
 -- each column is less than the next
 abbrev pub IsRising : List ℕ → Type 0
-IsRising [] = Unit {0}
-IsRising (c ∷ columns) = IsBelowFirst c columns × IsRising columns
+IsRising columns = IsRisingBy (λ c d. c < d) columns
 
 -- no coefficient is 0
 abbrev pub AllNonzero : List Cell → Type 0

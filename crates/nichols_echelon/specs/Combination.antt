@@ -1,7 +1,7 @@
 -- Linear combinations of rows.
-use Rattle.std.specs.Prelude.{◌≡◌, ℕ, List, [], ◌∷◌, slice_index_or}
+use Rattle.std.specs.Prelude.{◌≡◌, ℕ, List, [], slice_index_or}
 use Rattle.std.specs.List.{AllByRecursion}
-use Rattle.nichols_field.specs.Field.{FieldValue, plus, times}
+use Rattle.nichols_field.specs.Field.{FieldValue, times, sum_by}
 use Rattle.nichols_echelon.specs.Cells.{Cell, entry, IsRow, AllElements, AllBelow}
 
 -- the row at a position, from 0
@@ -22,8 +22,7 @@ AreRows rows = AllByRecursion (λ row. IsRow row) rows
 
 -- the entry at a column of a combination of rows: each cell is the position of a row with its coefficient
 unfoldable pub combined_entry : FieldValue → List (List Cell) → List Cell → ℕ → ℕ
-combined_entry field rows [] column = 0
-combined_entry field rows (c ∷ cells) column = plus field (times field c.coefficient (entry field (row_at rows c.column) column)) (combined_entry field rows cells column)
+combined_entry field rows cells column = sum_by field (λ c. times field c.coefficient (entry field (row_at rows c.column) column)) cells
 
 -- the row at a position is, at every column, this combination of the rows before it
 pub record IsCombination (field : FieldValue) (rows : List (List Cell)) (k : ℕ) (cells : List Cell) : Type 0 where

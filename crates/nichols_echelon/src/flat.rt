@@ -8,7 +8,7 @@ use std::alloc::{AllocError, Global};
 use std::marker::Model;
 
 /// The greatest number of cells.
-const MOST: usize = 0xFFFF_FFFF;
+const MOST: usize = u32::MAX as usize;
 
 /// Closed rows of cells, and the cells of one open row behind them.
 #[derive(Drop)]

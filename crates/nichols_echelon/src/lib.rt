@@ -38,7 +38,7 @@ const MORE_PER_ROW: usize = 16;
 /// rows before it is the only one. Columns are swept from the greatest down: a row whose last
 /// column is that of no kept row is kept as it is, with nothing computed, and a sweep stops at the
 /// first such column. Memory is taken in proportion to the cells of the rows and of what is left
-/// of them, and to the columns up to 65,536. `AllocError` says that it was refused, or that there
+/// of them, and to the columns up to `FEW`. `AllocError` says that it was refused, or that there
 /// are 2^32 cells or more.
 pub fn split_rows(alloc: Global, field: Field, rows: &[Row]) -> Result<Vec<Place>, AllocError>
     requires elements { AllRowsElements field rows.now }
@@ -50,7 +50,7 @@ pub fn split_rows(alloc: Global, field: Field, rows: &[Row]) -> Result<Vec<Place
 }
 
 /// The same for rows that stand one behind the other. None of them is copied where their last
-/// column isn't beyond 65,536, and 16 more for each row.
+/// column isn't beyond `FEW`, and `MORE_PER_ROW` more for each row.
 pub fn split_flat_rows(alloc: Global, field: Field, rows: &Rows) -> Result<Vec<Place>, AllocError>
     requires shape { AreRows rows.now.rows }
     requires elements { AllRowsElements field rows.now.rows }

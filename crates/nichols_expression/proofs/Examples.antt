@@ -1,6 +1,6 @@
 -- Worked expressions, over three letters and the field of 101 elements.
-use Rattle.std.proofs.Common.{◌≡◌, ℕ, List, [], ◌∷◌, ◌++◌, Ok, Err, codes, refl, replicate, flat_map, arith}
-use Rattle.nichols_tensor.specs.Combination.{Term}
+use Rattle.std.proofs.Common.{◌≡◌, ℕ, [], ◌∷◌, ◌++◌, Ok, Err, codes, refl, replicate, flat_map, arith}
+use Rattle.nichols_tensor.proofs.Terms.{term}
 use Rattle.nichols_field.specs.Field.{FieldValue}
 use Rattle.nichols_braid.specs.Braid.{BraidValue}
 use Rattle.nichols_expression.specs.Reader.{Fault, expression_of}
@@ -15,13 +15,10 @@ three =
     let field : FieldValue = record { size = 101 } in
     record { field = field; letters = 3; rack = []; cocycle = [] }
 
-abbrev pub term : ℕ → List ℕ → Term
-term c w = record { word = w; coefficient = c }
-
 abbrev at_place : ℕ → Cause → Fault
 at_place n cause = record { place = n; cause = cause }
 
-difference : expression_of three (codes "2*1.2 - 1.2") ≡ Ok (term 1 (1 ∷ 2 ∷ []) ∷ [])
+difference : expression_of three (codes "2*1.2 - 1.2") ≡ Ok (term (1 ∷ 2 ∷ []) 1 ∷ [])
 unfolding reader_on_literals
 difference = refl
 
@@ -49,7 +46,7 @@ long_number : expression_of three (codes "1234567890*1") ≡ Err (at_place 1 Lon
 unfolding reader_on_literals
 long_number = refl
 
-residue : expression_of three (codes "102*1") ≡ Ok (term 1 (1 ∷ []) ∷ [])
+residue : expression_of three (codes "102*1") ≡ Ok (term (1 ∷ []) 1 ∷ [])
 unfolding reader_on_literals
 residue = refl
 
@@ -77,7 +74,7 @@ cancelled : expression_of three (codes "1.2 - 1.2") ≡ Ok ([])
 unfolding reader_on_literals
 cancelled = refl
 
-sorted : expression_of three (codes "  - 5 * 2.1+e -3*1  +  2*e ") ≡ Ok (term 3 ([]) ∷ term 98 (1 ∷ []) ∷ term 96 (2 ∷ 1 ∷ []) ∷ [])
+sorted : expression_of three (codes "  - 5 * 2.1+e -3*1  +  2*e ") ≡ Ok (term [] 3 ∷ term (1 ∷ []) 98 ∷ term (2 ∷ 1 ∷ []) 96 ∷ [])
 unfolding reader_on_literals
 sorted = refl
 
@@ -117,7 +114,7 @@ space_in_word : expression_of three (codes "1 .2") ≡ Err (at_place 3 Byte)
 unfolding reader_on_literals
 space_in_word = refl
 
-nine : expression_of three (codes "999999999*3") ≡ Ok (term 9 (3 ∷ []) ∷ [])
+nine : expression_of three (codes "999999999*3") ≡ Ok (term (3 ∷ []) 9 ∷ [])
 unfolding reader_on_literals
 nine = refl
 
@@ -143,7 +140,7 @@ seven : expression_of three (codes "7") ≡ Err (at_place 1 Letter)
 unfolding reader_on_literals
 seven = refl
 
-seven_times : expression_of three (codes "7 *1") ≡ Ok (term 7 (1 ∷ []) ∷ [])
+seven_times : expression_of three (codes "7 *1") ≡ Ok (term (1 ∷ []) 7 ∷ [])
 unfolding reader_on_literals
 seven_times = refl
 

@@ -19,5 +19,5 @@ pub mod TermSteps
 pub mod TermTurns
 pub mod Entry
 pub mod Values
-pub mod Examples
+mod Examples
 pub mod OnLiterals

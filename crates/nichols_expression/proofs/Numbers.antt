@@ -23,7 +23,7 @@ digit_at (d ∷ ds) (suc i) h k = digit_at ds i h.1 (omega (arith, k))
 pub record NumberStep (ds : List ℕ) (i : ℕ) : Type 0 where
   pub digit : 48 ≤ get_or ds i 0
   pub value : digits_value 10 (take i ds) * 10 + (get_or ds i 0 - 48) ≡ digits_value 10 (take (i + 1) ds)
-  pub fits : digits_value 10 (take (i + 1) ds) < 10 ^ 9
+  pub fits : digits_value 10 (take (i + 1) ds) < 10 ^ NUMBER_LIMIT
 
 small_number : (ds : List ℕ) → AllDigits 10 ds → (k : ℕ) → length ds ≤ k → digits_value 10 ds < 10 ^ k
 small_number ds h k short = digits_value_short own ds k h short
@@ -40,7 +40,7 @@ number_step ds i h short k =
     record {
       digit = low;
       value = ap (λ d. digits_value 10 (take i ds) * 10 + d) same ∙ sym (digits_value_more 10 ds i k);
-      fits = omega (arith, digits_value-take-le 10 ds (i + 1) (omega arith), small_number ds h 9 short);
+      fits = omega (arith, digits_value-take-le 10 ds (i + 1) (omega arith), small_number ds h NUMBER_LIMIT short);
     }
 
 -- ---- letters

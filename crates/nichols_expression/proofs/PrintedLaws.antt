@@ -15,6 +15,7 @@ use Rattle.nichols_expression.specs.Printed.{word_text, term_text, form_text}
 use Rattle.nichols_expression.specs.Laws.{IsExpressionOf, IsPrintable, PrintedCombinationsAreReadAgain}
 use Rattle.nichols_expression.proofs.GrammarLaws.{grammar_is_accepted}
 use Rattle.nichols_tensor.proofs.InOrder.{in_order_itself}
+use Rattle.nichols_expression.specs.declared.TheConstants.{NUMBER_LIMIT}
 
 -- ---- words
 
@@ -34,10 +35,10 @@ word_printed n (a ∷ w) h short = letters (letters_printed n a w h.0 h.1) short
 
 coefficient_printed : (k : FieldValue) → IsField k → (c : ℕ) → IsElement k c → IsCoefficient k (decimal c) c
 coefficient_printed k is c e =
-    let few : c < 10 ^ 9 = omega (arith, element_bound k c is e) in
+    let few : c < 10 ^ NUMBER_LIMIT = omega (arith, element_bound k c is e) in
     let small : c < 2 ^ 64 = omega (arith, few) in
     let d = decimal_is_IsNumeral c small in
-    subst (IsCoefficient k (decimal c)) (ap (λ v. residue k (pos v)) d.1 ∙ residue_of_element k c e) (number d.0 (length-decimal-le 9 c (omega arith) few small))
+    subst (IsCoefficient k (decimal c)) (ap (λ v. residue k (pos v)) d.1 ∙ residue_of_element k c e) (number d.0 (length-decimal-le NUMBER_LIMIT c (omega arith) few small))
 
 term_printed : (k : FieldValue) → IsField k → (n : ℕ) (t : Term) → IsElement k t.coefficient → IsWordOver n t.word → length t.word ≤ WORD_LIMIT → IsTermText k n (term_text t) t
 unfolding term_text

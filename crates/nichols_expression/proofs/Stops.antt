@@ -6,16 +6,16 @@ use Rattle.std.specs.Result.{MatchResult, IsErr, IsErrAnd}
 use Rattle.nichols_expression.specs.declared.faults.ExpressionFault.{ExpressionFault}
 use Rattle.nichols_expression.specs.declared.faults.ExpressionFault.TheVariants.{At}
 use Rattle.nichols_expression.specs.declared.faults.Cause.{Cause}
-use Rattle.nichols_expression.specs.declared.stop.Stop.{Stop}
+use Rattle.nichols_expression.specs.declared.placed_fault.PlacedFault.{PlacedFault}
 
-pub stopped : {X : Type 0} (text : List ℕ) (read : Result X FaultAt) (stop : Stop) (at : ℕ) (cause : Cause) → at ≤ length text → stop.place ≡ at + 1 → stop.cause ≡ cause → read ≡ fault cause (drop at text) → IsStoppedBy text read stop
+pub stopped : {X : Type 0} (text : List ℕ) (read : Result X FaultAt) (stop : PlacedFault) (at : ℕ) (cause : Cause) → at ≤ length text → stop.place ≡ at + 1 → stop.cause ≡ cause → read ≡ fault cause (drop at text) → IsStoppedBy text read stop
 stopped text read stop at cause within place same h = (at, within, place, h ∙ ap (λ k. fault k (drop at text)) (sym same))
 
 -- a fault made of a stop is one of the same reading
-pub fault_of : {X : Type 0} (text : List ℕ) (read : Result X FaultAt) (stop : Stop) (fault : ExpressionFault) → fault ≡ At stop.place stop.cause → IsStoppedBy text read stop → IsFaultOf text read fault
+pub fault_of : {X : Type 0} (text : List ℕ) (read : Result X FaultAt) (stop : PlacedFault) (fault : ExpressionFault) → fault ≡ At stop.place stop.cause → IsStoppedBy text read stop → IsFaultOf text read fault
 fault_of text read stop fault h s = subst (IsFaultOf text read) (sym h) s
 
-pub stop_moved : {X Y : Type 0} (text : List ℕ) (inner : Result X FaultAt) (read : Result Y FaultAt) (stop : Stop) →
+pub stop_moved : {X Y : Type 0} (text : List ℕ) (inner : Result X FaultAt) (read : Result Y FaultAt) (stop : PlacedFault) →
     ((cause : Cause) (left : List ℕ) → inner ≡ fault cause left → read ≡ fault cause left) → IsStoppedBy text inner stop → IsStoppedBy text read stop
 stop_moved text inner read stop h s = (s.0, s.1, s.2, h stop.cause (drop s.0 text) s.3)
 

@@ -1,5 +1,5 @@
 -- Two texts with a common front are read alike, as far as what is read depends on that front alone.
-use Rattle.std.proofs.Common.{◌≡◌, ℕ, zero, suc, ◌<◌, ◌≤◌, ◌+◌, pos, Bool, true, false, ◌&&◌, cond, List, [], ◌∷◌, ◌++◌, length, refl, sym, ◌∙◌, ap, subst, nat_eq, nat_le, arith, Option, Some, None, Result, Ok, Err}
+use Rattle.std.proofs.Common.{◌≡◌, ◌-◌, ℕ, zero, suc, ◌<◌, ◌≤◌, ◌+◌, pos, Bool, true, false, ◌&&◌, cond, List, [], ◌∷◌, ◌++◌, length, refl, sym, ◌∙◌, ap, subst, nat_eq, nat_le, arith, Option, Some, None, Result, Ok, Err}
 use Rattle.std.proofs.lemmas.Bool.{and_parts}
 use Rattle.std.specs.Str.Parse.{digits_value}
 use Rattle.std.specs.Char.{is_ascii_digit}
@@ -205,7 +205,7 @@ long_run_stops : (field : FieldValue) (n : ℕ) → n ≤ LETTER_LIMIT → (byte
 long_run_stops field n small byte rest digit long = by_behind (past_spaces (past_run (byte ∷ rest)))
   where
     no_word : word_at n (byte ∷ rest) ≡ fault Letter (byte ∷ rest)
-    no_word = word_of_digit n (byte ∷ rest) digit ∙ not_letter n 59 (byte ∷ rest) (no_letter_long n (run_at (byte ∷ rest)) small (omega (arith, long)))
+    no_word = word_of_digit n (byte ∷ rest) digit ∙ not_letter n (WORD_LIMIT - 1) (byte ∷ rest) (no_letter_long n (run_at (byte ∷ rest)) small (omega (arith, long)))
 
     no_number : nat_le (length (run_at (byte ∷ rest))) NUMBER_LIMIT ≡ false
     no_number = grind (arith, nat_tests, long)

@@ -1,5 +1,5 @@
 -- Whole expressions of the grammar are read.
-use Rattle.std.proofs.Common.{◌≡◌, ℕ, zero, suc, ◌<◌, ◌≤◌, Bool, true, false, ◌&&◌, cond, List, [], ◌∷◌, ◌++◌, length, refl, sym, ◌∙◌, ap, subst, nat_eq, arith, Some, None, Ok, append_assoc, append-nil}
+use Rattle.std.proofs.Common.{◌≡◌, ◌-◌, ℕ, zero, suc, ◌<◌, ◌≤◌, Bool, true, false, ◌&&◌, cond, List, [], ◌∷◌, ◌++◌, length, refl, sym, ◌∙◌, ap, subst, nat_eq, arith, Some, None, Ok, append_assoc, append-nil}
 use Rattle.std.proofs.lemmas.Bool.{and_parts}
 use Rattle.std.specs.Str.Parse.{digits_value}
 use Rattle.std.proofs.lemmas.Bool.Decides.{Decides-eqb}
@@ -12,6 +12,7 @@ use Rattle.nichols_expression.specs.declared.signs.Sign.{Sign}
 use Rattle.nichols_expression.specs.declared.signs.Sign.TheVariants.{Positive, Reversed}
 use Rattle.nichols_expression.specs.Grammar.{IsSpaces, IsSign, plus_sign, minus_sign, IsTermText, IsTerms, last_term, next_term, IsSignedTerms, unsigned, after_sign, IsExpression, nothing, terms}
 use Rattle.std.specs.Char.{is_ascii_digit}
+use Rattle.nichols_tensor.specs.declared.TheConstants.{WORD_LIMIT}
 use Rattle.nichols_expression.specs.Reader.{fault, map_step, run_at, past_run, past_spaces, is_letter_run, past_letter, at_run, letters_at, word_at, with_coefficient, past_first_run, term_at, sign_of, put_first, after_term, past_term, with_term, terms_at, is_empty, signed_by, zero_or_terms, expression_at, read_terms}
 use Rattle.nichols_expression.specs.declared.faults.Cause.TheVariants.{Letter}
 use Rattle.nichols_expression.proofs.Sound.{spaces_by_test}
@@ -105,7 +106,7 @@ not_letter n room text h = ap (λ b. at_run (λ t. past_letter (letters_at n roo
 zero_is_no_letter : (n : ℕ) (rest : List ℕ) → IsSpaces rest → word_at n (zero_digit ∷ rest) ≡ fault Letter (zero_digit ∷ rest)
 zero_is_no_letter n rest p =
     word_of_digit n (zero_digit ∷ rest) refl
-    ∙ not_letter n 59 (zero_digit ∷ rest) (ap (is_letter_run n) (run_is (zero_digit ∷ []) rest (lt_ten, tt) (spaces_avoid_all is_ascii_digit refl rest p)))
+    ∙ not_letter n (WORD_LIMIT - 1) (zero_digit ∷ rest) (ap (is_letter_run n) (run_is (zero_digit ∷ []) rest (lt_ten, tt) (spaces_avoid_all is_ascii_digit refl rest p)))
   where
     lt_ten : 0 < 10
     lt_ten = omega arith

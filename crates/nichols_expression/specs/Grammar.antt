@@ -34,7 +34,7 @@ pub data IsWordText (n : ℕ) : List ℕ → List ℕ → Type 0 where
   empty_word : IsWordText n (empty_byte ∷ []) []
   letters : {text w : List ℕ} → IsLetters n text w → length w ≤ WORD_LIMIT → IsWordText n text w
 
--- number = 1 to 9 ASCII digits
+-- number = 1 to NUMBER_LIMIT ASCII digits
 pub data IsCoefficient (field : FieldValue) : List ℕ → ℕ → Type 0 where
   number : {text : List ℕ} → IsNumeral 10 text → length text ≤ NUMBER_LIMIT → IsCoefficient field text (residue field (pos (digits_value 10 text)))
 

@@ -4,7 +4,7 @@ use Rattle.std.specs.Char.{is_ascii_digit}
 use Rattle.nichols_expression.specs.Reader.{FaultAt, Step, got, fault}
 use Rattle.nichols_expression.specs.declared.faults.ExpressionFault.{ExpressionFault}
 use Rattle.nichols_expression.specs.declared.faults.ExpressionFault.TheVariants.{At, Memory}
-use Rattle.nichols_expression.specs.declared.stop.Stop.{Stop}
+use Rattle.nichols_expression.specs.declared.placed_fault.PlacedFault.{PlacedFault}
 
 -- whether the text goes on with this byte
 abbrev pub starts_with : ℕ → List ℕ → Bool
@@ -21,7 +21,7 @@ abbrev pub IsReadTo : {X : Type 0} → List ℕ → ℕ → Step X → X → ℕ
 IsReadTo text from step x end = (from ≤ end) × (end ≤ length text) × (step ≡ got x (drop end text))
 
 -- the reading stops so, where `at` bytes of the text are behind
-abbrev pub IsStoppedBy : {X : Type 0} → List ℕ → Result X FaultAt → Stop → Type 0
+abbrev pub IsStoppedBy : {X : Type 0} → List ℕ → Result X FaultAt → PlacedFault → Type 0
 IsStoppedBy text read stop = (at : ℕ) × (at ≤ length text) × (stop.place ≡ at + 1) × (read ≡ fault stop.cause (drop at text))
 
 -- the same of a fault that may be want of memory, of which nothing is said

@@ -14,9 +14,9 @@ ghost use Rattle.nichols_expression.specs.Faults.{IsPlacedIn};
 ghost use Rattle.nichols_expression.specs.Steps.{IsFaultOf, starts_with};
 
 use crate::faults::{Cause, ExpressionFault};
+use crate::placed_fault::PlacedFault;
 use crate::scan::{behind_spaces, has_byte};
 use crate::signs::{Sign, sign_of};
-use crate::stop::Stop;
 use crate::terms::read_terms;
 use nichols_braid::Braid;
 use nichols_field::Field;
@@ -27,8 +27,8 @@ use std::alloc::Global;
 ///
 /// An expression is `0`, or terms between `+` and `-`, with a sign before the first or none; a term is a word, or a number
 /// and `*` before one; a word is `e`, which is the empty one, or letters from 1 to n between dots. Spaces stand anywhere but
-/// inside of words and numbers. A number has 1 to 9 digits and is taken modulo p, a word has at most 60 letters, an expression
-/// at most 1,000 terms; terms of one word are added.
+/// inside of words and numbers. A number has 1 to `NUMBER_LIMIT` digits and is taken modulo p, a word has at most `WORD_LIMIT`
+/// letters, an expression at most `TERM_LIMIT` terms; terms of one word are added.
 ///
 /// `At` is the first fault from the left; its cause is never `Surplus`, which is one of documents. The time is that of the
 /// bytes, and of sorting the terms.
@@ -64,7 +64,7 @@ fn terms_of(
 {
     let start = behind_spaces(text, 0);
     if start == text.len() {
-        return Err(Stop::behind(text, start, Cause::Early).into());
+        return Err(PlacedFault::behind(text, start, Cause::Early).into());
     }
     let behind = behind_spaces(text, start + 1);
     if is_zero_alone(text, start, behind) {

@@ -5,9 +5,9 @@ mod digits;
 mod expression;
 mod faults;
 pub mod laws;
+mod placed_fault;
 mod scan;
 mod signs;
-mod stop;
 mod terms;
 mod words;
 

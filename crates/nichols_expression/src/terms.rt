@@ -10,9 +10,9 @@ ghost use Rattle.nichols_expression.specs.Steps.{IsFaultOf, IsReadTo, IsStoppedB
 
 use crate::digits::number_of;
 use crate::faults::{Cause, ExpressionFault};
+use crate::placed_fault::PlacedFault;
 use crate::scan::{behind_run, behind_spaces, has_byte, has_digit};
 use crate::signs::{Sign, sign_of, signed};
-use crate::stop::Stop;
 use crate::words::read_word;
 use crate::{NUMBER_LIMIT, TERM_LIMIT};
 use nichols_field::Field;
@@ -27,7 +27,7 @@ fn read_coefficient(
     from: usize,
     field: Field,
     letters: u8,
-) -> Result<(u32, usize), Stop>
+) -> Result<(u32, usize), PlacedFault>
     requires { from < length text.now }
     ensures { MatchResult result
         (λ r. (from ≤ r.1) × (r.1 ≤ length text.now) × IsElement field r.0
@@ -45,7 +45,7 @@ fn read_coefficient(
     }
     let is_long = end - from > NUMBER_LIMIT;
     if is_long {
-        return Err(Stop::behind(text, from, Cause::LongNumber));
+        return Err(PlacedFault::behind(text, from, Cause::LongNumber));
     }
     let number = number_of(&text[from..end]);
     let coefficient = field.from_i64(i64::from(number));
@@ -53,7 +53,12 @@ fn read_coefficient(
 }
 
 /// The term at a place, and the place behind it.
-fn read_term(text: &[u8], from: usize, field: Field, letters: u8) -> Result<(Term, usize), Stop>
+fn read_term(
+    text: &[u8],
+    from: usize,
+    field: Field,
+    letters: u8,
+) -> Result<(Term, usize), PlacedFault>
     requires within { from < length text.now }
     requires letters { letters ≤ LETTER_LIMIT }
     ensures { MatchResult result
@@ -85,11 +90,11 @@ pub(crate) fn read_terms(
     let mut at = from;
     loop {
         if at == text.len() {
-            return Err(Stop::behind(text, at, Cause::Early).into());
+            return Err(PlacedFault::behind(text, at, Cause::Early).into());
         }
         let is_full = terms.len() == TERM_LIMIT;
         if is_full {
-            return Err(Stop::behind(text, at, Cause::Terms).into());
+            return Err(PlacedFault::behind(text, at, Cause::Terms).into());
         }
         let (term, end) = read_term(text, at, field, letters)?;
         terms.push(signed(field, sign, term))?;
@@ -98,7 +103,7 @@ pub(crate) fn read_terms(
             return Ok(terms);
         }
         let Some(next) = sign_of(text[behind]) else {
-            return Err(Stop::behind(text, behind, Cause::Byte).into());
+            return Err(PlacedFault::behind(text, behind, Cause::Byte).into());
         };
         sign = next;
         at = behind_spaces(text, behind + 1);

@@ -10,8 +10,8 @@ ghost use Rattle.nichols_expression.specs.Steps.{IsReadTo, IsStoppedBy};
 
 use crate::digits::letter_of;
 use crate::faults::Cause;
+use crate::placed_fault::PlacedFault;
 use crate::scan::{behind_run, has_byte, has_digit};
-use crate::stop::Stop;
 use nichols_words::Word;
 
 /// The letter that the run of digits at a place is, and the place behind it.
@@ -29,7 +29,7 @@ fn letter_at(text: &[u8], at: usize, letters: u8) -> Option<(u8, usize)>
 }
 
 /// The word whose letters begin with the run of digits at a place, and the place behind it.
-fn read_letters(text: &[u8], from: usize, letters: u8) -> Result<(Word, usize), Stop>
+fn read_letters(text: &[u8], from: usize, letters: u8) -> Result<(Word, usize), PlacedFault>
     requires within { from ≤ length text.now }
     requires letters { letters ≤ LETTER_LIMIT }
     ensures { MatchResult result
@@ -40,26 +40,26 @@ fn read_letters(text: &[u8], from: usize, letters: u8) -> Result<(Word, usize), 
     let mut at = from;
     loop {
         let Some((letter, end)) = letter_at(text, at, letters) else {
-            return Err(Stop::behind(text, at, Cause::Letter));
+            return Err(PlacedFault::behind(text, at, Cause::Letter));
         };
         if !word.push(letter) {
-            return Err(Stop::behind(text, at, Cause::LongWord));
+            return Err(PlacedFault::behind(text, at, Cause::LongWord));
         }
         if !has_byte(text, end, b'.') {
             return Ok((word, end));
         }
         at = end + 1;
         if at == text.len() {
-            return Err(Stop::behind(text, at, Cause::Early));
+            return Err(PlacedFault::behind(text, at, Cause::Early));
         }
         if !has_digit(text, at) {
-            return Err(Stop::behind(text, at, Cause::Byte));
+            return Err(PlacedFault::behind(text, at, Cause::Byte));
         }
     }
 }
 
 /// The word at a place, and the place behind it.
-pub(crate) fn read_word(text: &[u8], from: usize, letters: u8) -> Result<(Word, usize), Stop>
+pub(crate) fn read_word(text: &[u8], from: usize, letters: u8) -> Result<(Word, usize), PlacedFault>
     requires within { from ≤ length text.now }
     requires letters { letters ≤ LETTER_LIMIT }
     ensures { MatchResult result
@@ -73,7 +73,7 @@ pub(crate) fn read_word(text: &[u8], from: usize, letters: u8) -> Result<(Word, 
         return Ok((Word::empty(), from + 1));
     }
     if from == text.len() {
-        return Err(Stop::behind(text, from, Cause::Early));
+        return Err(PlacedFault::behind(text, from, Cause::Early));
     }
-    Err(Stop::behind(text, from, Cause::Byte))
+    Err(PlacedFault::behind(text, from, Cause::Byte))
 }

@@ -45,6 +45,11 @@ unfoldable pub residue : FieldValue → ℤ → ℕ
 residue field (pos n) = n % field.size
 residue field (negsuc n) = field.size - 1 - n % field.size
 
+-- the sum of what each entry of a list gives
+abbrev pub sum_by : {X : Type 0} → FieldValue → (X → ℕ) → List X → ℕ
+sum_by field gives [] = 0
+sum_by field gives (x ∷ xs) = plus field (gives x) (sum_by field gives xs)
+
 -- the numbers below a bound
 abbrev pub numbers_below : ℕ → List ℕ
 numbers_below zero = []

@@ -11,7 +11,7 @@ use std::thread::Threads;
 const WORKERS: u32 = 2;
 
 /// Two letters that act alike, with the scalar 1 over 101 elements.
-fn two_letters(alloc: Global) -> Result<Braid, Fail> {
+fn two_commuting_letters(alloc: Global) -> Result<Braid, Fail> {
     braid_with_constant(alloc, 101, &[&[1, 2], &[1, 2]], 1)
 }
 
@@ -68,6 +68,7 @@ fn degrees_of_one_letter(rt: HostRuntime) -> Result<(), Fail> {
 /// What threads may share.
 fn is_shared<T: Send + Sync>(_shared: &T) {}
 
+/// A check of the types alone: no thread is started.
 #[test]
 fn an_algebra_may_be_shared(rt: HostRuntime) -> Result<(), Fail> {
     let alloc = rt.alloc();
@@ -120,11 +121,18 @@ fn limits(rt: HostRuntime) -> Result<(), Fail> {
     });
     ends(&rt, alloc, one_letter(alloc)?, (0, 1_024), &[1], degrees)?;
     ends(&rt, alloc, one_letter(alloc)?, (1, 1_024), &[1, 1], degrees)?;
-    ends(&rt, alloc, two_letters(alloc)?, (12, 1), &[1], rows(1, 2))?;
     ends(
         &rt,
         alloc,
-        two_letters(alloc)?,
+        two_commuting_letters(alloc)?,
+        (12, 1),
+        &[1],
+        rows(1, 2),
+    )?;
+    ends(
+        &rt,
+        alloc,
+        two_commuting_letters(alloc)?,
         (12, 5),
         &[1, 2, 3],
         rows(3, 6),
@@ -132,14 +140,14 @@ fn limits(rt: HostRuntime) -> Result<(), Fail> {
     ends(
         &rt,
         alloc,
-        two_letters(alloc)?,
+        two_commuting_letters(alloc)?,
         (12, 6),
         &[1, 2, 3, 4],
         rows(4, 8),
     )
 }
 
-/// Degree 4 has more than 5,040 products.
+/// Degree 4 has more than `MOST_PRODUCTS` products.
 #[test]
 fn wide(rt: HostRuntime) -> Result<(), Fail> {
     let alloc = rt.alloc();

@@ -5,7 +5,7 @@ use Rattle.nichols_field.specs.Field.{prime_field}
 use Rattle.nichols_tensor.specs.Combination.{Combination}
 use Rattle.nichols_braid.specs.Faults.{letters, not_distributive, cocycle_shape}
 use Rattle.nichols_expression.specs.declared.faults.Cause.TheVariants.{Letter}
-use Rattle.nichols_expression.proofs.Examples.{term}
+use Rattle.nichols_tensor.proofs.Terms.{term}
 use Rattle.nichols_input.specs.Document.{DocumentValue, document_in}
 use Rattle.nichols_input.specs.Refusal.{not_toml, missing_key, unknown_key, wrong_kind, modulus, tables, expression}
 use Rattle.nichols_input.specs.declared.key.Key.TheVariants.{Modulus, Rack, Cocycle, Expressions}
@@ -41,7 +41,7 @@ one_scalar : document_in (codes "cocycle = -1\n" ++ rack_line ++ modulus_line) �
 unfolding input_on_literals
 one_scalar = refl
 
-with_expressions : document_in (modulus_line ++ rack_line ++ cocycle_line ++ codes "expressions = [\" - 1.2 +3.1\", \"0\"]\n") ≡ Ok (three_with ((term 100 (1 ∷ 2 ∷ []) ∷ term 1 (3 ∷ 1 ∷ []) ∷ []) ∷ [] ∷ []))
+with_expressions : document_in (modulus_line ++ rack_line ++ cocycle_line ++ codes "expressions = [\" - 1.2 +3.1\", \"0\"]\n") ≡ Ok (three_with ((term (1 ∷ 2 ∷ []) 100 ∷ term (3 ∷ 1 ∷ []) 1 ∷ []) ∷ [] ∷ []))
 unfolding input_on_literals
 with_expressions = refl
 

@@ -13,7 +13,7 @@ use Rattle.nichols_braid.specs.Crossing.{cross, cross_scalar, crossed_term}
 use Rattle.nichols_braid.specs.Lift.{exchanged_at, IsDescentAt, IsSorted, IsDescending}
 use Rattle.nichols_braid.specs.Derivation.{scalars_met}
 use Rattle.nichols_braid.proofs.Rearranged.{consecutive}
-use Rattle.nichols_lift.proofs.Reduced.{term}
+use Rattle.nichols_tensor.proofs.Terms.{term}
 use Rattle.nichols_lift.proofs.Step.{exchanged_is_permutation, exchanged_length}
 use Rattle.nichols_braid.proofs.WholeKernel.{cross_length}
 

@@ -15,7 +15,7 @@ use Rattle.nichols_braid.specs.RightProduct.{times_letter}
 use Rattle.nichols_braid.proofs.Maps.{extended_same, extended_same_on, linear_map-sum, linear_map-linear_map, times_letter_is_extended, times_letter-append}
 use Rattle.nichols_braid.proofs.Rule.{here, map-here}
 use Rattle.nichols_deriv.proofs.Passed.{fronted, fronted_twice}
-use Rattle.nichols_lift.proofs.Reduced.{term}
+use Rattle.nichols_tensor.proofs.Terms.{term}
 use Rattle.nichols_lift.proofs.Summands.{Summand, summands, lifted, lifts_are_summands}
 use Rattle.nichols_lift.proofs.Totals.{total, total_same, total-plus, total_zero, one_letter, value_at-flat_map}
 

@@ -2,8 +2,8 @@
 use Rattle.std.proofs.Common.{◌≡◌, ℕ, zero, suc, ◌+◌, ◌-◌, ◌<◌, ◌≤◌, List, [], ◌∷◌, length, drop, get_or, set, refl, sym, ◌∙◌, ap, ap₂, subst, arith, Option, None, Some}
 use Rattle.std.proofs.Math.Seq.{drop-cons}
 use Rattle.nichols_field.specs.Field.{IsElement, times}
-use Rattle.nichols_tensor.specs.Combination.{Term}
 use Rattle.nichols_tensor.specs.Words.{IsWordOver}
+use Rattle.nichols_tensor.proofs.Terms.{term}
 use Rattle.nichols_braid.specs.Braid.{BraidValue, IsBraid, act, scalar}
 use Rattle.nichols_braid.specs.Crossing.{cross, cross_scalar, crossed_term}
 use Rattle.nichols_braid.specs.Lift.{exchanged_at, IsDescentAt, IsSorted, IsDescending, first_descent, lift}
@@ -48,9 +48,6 @@ descent_within (suc (suc i)) [] h = absurd h
 descent_within (suc (suc i)) (a ∷ ends) h = let rest : (1 ≤ suc i) × (suc i < length ends) = descent_within (suc i) ends h in (omega arith, omega (arith, rest.1))
 
 -- ---- the loop of `lift`
-
-abbrev term : List ℕ → ℕ → Term
-term w c = record { word = w; coefficient = c }
 
 -- from the word and the scalar every list that is descending for these end places leads to the lift
 pub record IsLeading (braid : BraidValue) (perm word ends now : List ℕ) (met : ℕ) : Type 0 where

@@ -4,8 +4,8 @@ use Rattle.std.proofs.lemmas.List.Sorted.{IsPermutation-trans}
 use Rattle.nichols_field.specs.Field.{IsField, IsElement, times}
 use Rattle.nichols_field.proofs.FieldLaws.{times_assoc, times_one, times_is_element, one_is_element}
 use Rattle.nichols_field.proofs.FieldAlgebra.{one_times}
-use Rattle.nichols_tensor.specs.Combination.{Term}
 use Rattle.nichols_tensor.specs.Words.{up_to, IsWordOver}
+use Rattle.nichols_tensor.proofs.Terms.{term}
 use Rattle.nichols_tensor.proofs.Tests.{map_same}
 use Rattle.nichols_braid.specs.Braid.{BraidValue, IsBraid}
 use Rattle.nichols_braid.specs.Crossing.{cross, cross_scalar, crossed_term}
@@ -19,9 +19,6 @@ use Rattle.nichols_lift.proofs.Bubble.{bubble_descends}
 use Rattle.nichols_braid.proofs.Rearranged.{consecutive, up_to_is_consecutive, rearranged_length}
 use Rattle.nichols_lift.proofs.Sorted.{sorted_is_up_to, closed_letters_sorted, closed_scalar_sorted}
 use Rattle.nichols_braid.proofs.WholeKernel.{cross_length}
-
-abbrev pub term : List ℕ → ℕ → Term
-term w c = record { word = w; coefficient = c }
 
 -- the word of the closed form
 ending : BraidValue → ℕ → List ℕ → List ℕ → List ℕ

@@ -3,7 +3,7 @@ use Rattle.std.proofs.Common.{◌≡◌, ℕ, zero, suc, ◌+◌, ◌<◌, ◌�
 use Rattle.std.specs.List.{All, IsDistinct}
 use Rattle.std.proofs.lemmas.Bool.Decides.{nat_tests}
 use Rattle.std.proofs.lemmas.List.Elements.{All-tail, All-head, All-weaker}
-use Rattle.std.proofs.lemmas.Bool.{cond-false}
+use Rattle.std.proofs.lemmas.Bool.{cond-false, le-ltb}
 use Rattle.nichols_field.specs.Field.{IsField, times}
 use Rattle.nichols_field.proofs.FieldLaws.{one_is_element}
 use Rattle.nichols_field.proofs.FieldAlgebra.{one_times}
@@ -77,18 +77,15 @@ below_all : (n x : ℕ) (ps : List Placed) → AllBelow n ps → AllBelow (suc n
 unfolding AllBelow
 below_all n x ps h = (omega arith, below_more n ps h)
 
-not_right : (e n : ℕ) → n ≤ e → nat_lt e n ≡ false
-not_right e n h = grind (arith, nat_tests)
-
 acted_by_none : (braid : BraidValue) (n : ℕ) (ps : List Placed) → AllBelow n ps → (x : ℕ) → acted_letter braid ps (suc n) x ≡ x
 unfolding AllBelow
 acted_by_none braid n [] h x = refl
-acted_by_none braid n (p ∷ ps) h x = cond-false (nat_lt (suc n) p.place) _ _ (not_right (suc n) p.place (omega (arith, h.0))) ∙ acted_by_none braid n ps h.1 x
+acted_by_none braid n (p ∷ ps) h x = cond-false (nat_lt (suc n) p.place) _ _ (le-ltb (suc n) p.place (omega (arith, h.0))) ∙ acted_by_none braid n ps h.1 x
 
 none_met : (braid : BraidValue) (n : ℕ) (ps : List Placed) → AllBelow n ps → (x : ℕ) → acted_scalar braid ps (suc n) x ≡ 1
 unfolding AllBelow
 none_met braid n [] h x = refl
-none_met braid n (p ∷ ps) h x = cond-false (nat_lt (suc n) p.place) _ _ (not_right (suc n) p.place (omega (arith, h.0))) ∙ none_met braid n ps h.1 x
+none_met braid n (p ∷ ps) h x = cond-false (nat_lt (suc n) p.place) _ _ (le-ltb (suc n) p.place (omega (arith, h.0))) ∙ none_met braid n ps h.1 x
 
 -- each letter at its own place
 own : ℕ → List ℕ → List Placed

@@ -3,7 +3,7 @@ use Rattle.std.proofs.Common.{◌≡◌, ℕ, zero, suc, ◌<◌, Bool, true, fa
 use Rattle.std.proofs.lemmas.Bool.Decides.{nat_tests}
 use Rattle.std.specs.List.Sorted.{IsPermutation}
 use Rattle.std.proofs.lemmas.List.Sorted.{IsPermutation-cons, IsPermutation-middle}
-use Rattle.std.proofs.lemmas.Bool.{cond-true, cond-false}
+use Rattle.std.proofs.lemmas.Bool.{cond-true, cond-false, lt-ltb, le-ltb}
 use Rattle.nichols_field.specs.Field.{FieldValue, times}
 use Rattle.nichols_field.proofs.FieldLaws.{times_assoc}
 use Rattle.nichols_field.proofs.FieldAlgebra.{swap_factors}
@@ -34,25 +34,19 @@ exchanged_is_permutation (suc (suc i)) (a ∷ ends) h = IsPermutation-cons a end
 
 -- ---- the crossed letters
 
-below_is_true : (a b : ℕ) → a < b → nat_lt a b ≡ true
-below_is_true a b h = grind (arith, nat_tests)
-
-above_is_false : (a b : ℕ) → a < b → nat_lt b a ≡ false
-above_is_false a b h = grind (arith, nat_tests)
-
 -- the right letter, which the left one acts on
 right_acted : (braid : BraidValue) (earlier : List Placed) (ea a eb b : ℕ) → eb < ea → acted_letter braid (placed ea a ∷ earlier) eb b ≡ acted_letter braid earlier eb (act braid a b)
-right_acted braid earlier ea a eb b h = cond-true (nat_lt eb ea) (acted_letter braid earlier eb (act braid a b)) (acted_letter braid earlier eb b) (below_is_true eb ea h)
+right_acted braid earlier ea a eb b h = cond-true (nat_lt eb ea) (acted_letter braid earlier eb (act braid a b)) (acted_letter braid earlier eb b) (lt-ltb eb ea h)
 
 right_scalar : (braid : BraidValue) (earlier : List Placed) (ea a eb b : ℕ) → eb < ea → acted_scalar braid (placed ea a ∷ earlier) eb b ≡ times braid.field (scalar braid a b) (acted_scalar braid earlier eb (act braid a b))
-right_scalar braid earlier ea a eb b h = cond-true (nat_lt eb ea) (times braid.field (scalar braid a b) (acted_scalar braid earlier eb (act braid a b))) (acted_scalar braid earlier eb b) (below_is_true eb ea h)
+right_scalar braid earlier ea a eb b h = cond-true (nat_lt eb ea) (times braid.field (scalar braid a b) (acted_scalar braid earlier eb (act braid a b))) (acted_scalar braid earlier eb b) (lt-ltb eb ea h)
 
 -- the left letter, which the right one, crossed, doesn't act on
 left_acted : (braid : BraidValue) (earlier : List Placed) (ea a eb y : ℕ) → eb < ea → acted_letter braid (placed eb y ∷ earlier) ea a ≡ acted_letter braid earlier ea a
-left_acted braid earlier ea a eb y h = cond-false (nat_lt ea eb) (acted_letter braid earlier ea (act braid y a)) (acted_letter braid earlier ea a) (above_is_false eb ea h)
+left_acted braid earlier ea a eb y h = cond-false (nat_lt ea eb) (acted_letter braid earlier ea (act braid y a)) (acted_letter braid earlier ea a) (le-ltb ea eb (omega (arith, h)))
 
 left_scalar : (braid : BraidValue) (earlier : List Placed) (ea a eb y : ℕ) → eb < ea → acted_scalar braid (placed eb y ∷ earlier) ea a ≡ acted_scalar braid earlier ea a
-left_scalar braid earlier ea a eb y h = cond-false (nat_lt ea eb) (times braid.field (scalar braid y a) (acted_scalar braid earlier ea (act braid y a))) (acted_scalar braid earlier ea a) (above_is_false eb ea h)
+left_scalar braid earlier ea a eb y h = cond-false (nat_lt ea eb) (times braid.field (scalar braid y a) (acted_scalar braid earlier ea (act braid y a))) (acted_scalar braid earlier ea a) (le-ltb ea eb (omega (arith, h)))
 
 not_both : (ea eb e : ℕ) → eb < ea → nat_eq eb e ≡ true → nat_eq ea e ≡ true → ⊥
 not_both ea eb e h t u = grind (arith, nat_tests)

@@ -22,7 +22,8 @@ use Rattle.nichols_braid.proofs.Lists.{map-map, map-flat_map, same_flat_map}
 use Rattle.nichols_braid.proofs.Rearranged.{consecutive, up_to_is_consecutive, rearranged_length, rearranged_bounds}
 use Rattle.nichols_braid.proofs.Permutations.{inserted_is_rearrangement, listed_is_rearrangement, insert_between}
 use Rattle.nichols_lift.proofs.Bubble.{bubble_descends}
-use Rattle.nichols_lift.proofs.Reduced.{term, reduced_list, lift_is_closed}
+use Rattle.nichols_tensor.proofs.Terms.{term}
+use Rattle.nichols_lift.proofs.Reduced.{reduced_list, lift_is_closed}
 use Rattle.nichols_lift.proofs.Chain.{carried_to_end, descending_inserted, behind, multiple, crossed_within, crossed_term-append, crossed_multiple}
 
 -- ---- one permutation
@@ -82,13 +83,13 @@ summands braid front (a ∷ u) = record { letter = a; rest = term (front ++ map 
 abbrev pub lifted : BraidValue → Summand → Combination
 lifted braid s = times_letter (scalar_multiple braid.field s.rest.coefficient (lifts braid s.rest.word)) s.letter
 
-abbrev block : BraidValue → ℕ → List ℕ → ℕ → Combination
-block braid m w j = map (λ ends. lift braid (insert ends (j - 1) (suc m)) w) (permutations m)
+abbrev lifts_with_last_at : BraidValue → ℕ → List ℕ → ℕ → Combination
+lifts_with_last_at braid m w j = map (λ ends. lift braid (insert ends (j - 1) (suc m)) w) (permutations m)
 
-block_is_lifted : (braid : BraidValue) → IsBraid braid → (m : ℕ) (front : List ℕ) (a : ℕ) (u : List ℕ) → length front + length u ≡ m → IsWordOver braid.letters (front ++ a ∷ u) →
-    block braid m (front ++ a ∷ u) (suc (length front)) ≡ times_letter (scalar_multiple braid.field (scalars_met braid a u) (lifts braid (front ++ map (act braid a) u))) a
+lifts_with_last_are_lifted : (braid : BraidValue) → IsBraid braid → (m : ℕ) (front : List ℕ) (a : ℕ) (u : List ℕ) → length front + length u ≡ m → IsWordOver braid.letters (front ++ a ∷ u) →
+    lifts_with_last_at braid m (front ++ a ∷ u) (suc (length front)) ≡ times_letter (scalar_multiple braid.field (scalars_met braid a u) (lifts braid (front ++ map (act braid a) u))) a
 unfolding lifts
-block_is_lifted braid is m front a u size over =
+lifts_with_last_are_lifted braid is m front a u size over =
     ap (λ i. map (λ ends. lift braid (insert ends i (suc m)) (front ++ a ∷ u)) (permutations m)) (let e : suc (length front) - 1 ≡ length front = omega arith in e)
     ∙ each (permutations m) (listed_is_rearrangement m)
     ∙ ap (λ n. times_letter (scalar_multiple braid.field (scalars_met braid a u) (map (λ ends. lift braid ends (front ++ map (act braid a) u)) (permutations n))) a)
@@ -99,26 +100,26 @@ block_is_lifted braid is m front a u size over =
     each [] h = refl
     each (ends ∷ all) h = ap₂ (λ t r. t ∷ r) (lift_inserted braid is m ends front a u (h ends (contains_first ends all)) size over) (each all (λ es i. h es (contains_later ends all es i)))
 
-blocks_are_summands : (braid : BraidValue) → IsBraid braid → (m : ℕ) (front u w : List ℕ) → front ++ u ≡ w → length w ≡ suc m → IsWordOver braid.letters w →
-    flat_map (block braid m w) (consecutive (suc (length front)) (length u)) ≡ flat_map (lifted braid) (summands braid front u)
-blocks_are_summands braid is m front [] w e size over = refl
-blocks_are_summands braid is m front (a ∷ u) w e size over =
+lifts_behind_are_summands : (braid : BraidValue) → IsBraid braid → (m : ℕ) (front u w : List ℕ) → front ++ u ≡ w → length w ≡ suc m → IsWordOver braid.letters w →
+    flat_map (lifts_with_last_at braid m w) (consecutive (suc (length front)) (length u)) ≡ flat_map (lifted braid) (summands braid front u)
+lifts_behind_are_summands braid is m front [] w e size over = refl
+lifts_behind_are_summands braid is m front (a ∷ u) w e size over =
     let next : List ℕ = front ++ a ∷ [] in
     let count : length front + length u ≡ m = (let l : length front + suc (length u) ≡ suc m = sym (length-append front (a ∷ u)) ∙ ap length e ∙ size in omega arith) in
     ap₂ (λ f r. f ++ r)
-    (ap (λ x. block braid m x (suc (length front))) (sym e) ∙ block_is_lifted braid is m front a u count (subst (IsWordOver braid.letters) (sym e) over))
-    (ap (λ n. flat_map (block braid m w) (consecutive (suc n) (length u))) (sym (pushed_length front a)) ∙ blocks_are_summands braid is m next u w (append_assoc front (a ∷ []) u ∙ e) size over)
+    (ap (λ x. lifts_with_last_at braid m x (suc (length front))) (sym e) ∙ lifts_with_last_are_lifted braid is m front a u count (subst (IsWordOver braid.letters) (sym e) over))
+    (ap (λ n. flat_map (lifts_with_last_at braid m w) (consecutive (suc n) (length u))) (sym (pushed_length front a)) ∙ lifts_behind_are_summands braid is m next u w (append_assoc front (a ∷ []) u ∙ e) size over)
 
-by_length : (braid : BraidValue) (m : ℕ) (w : List ℕ) → length w ≡ suc m → lifts braid w ≡ flat_map (block braid m w) (up_to (suc m))
+by_length : (braid : BraidValue) (m : ℕ) (w : List ℕ) → length w ≡ suc m → lifts braid w ≡ flat_map (lifts_with_last_at braid m w) (up_to (suc m))
 unfolding lifts permutations
 by_length braid m w size =
     ap (λ n. map (λ ends. lift braid ends w) (permutations n)) size
     ∙ map-flat_map (λ ends. lift braid ends w) (λ j. map (λ ends. insert ends (j - 1) (suc m)) (permutations m)) (up_to (suc m))
-    ∙ same_flat_map (λ j. map (λ ends. lift braid ends w) (map (λ ends. insert ends (j - 1) (suc m)) (permutations m))) (block braid m w)
+    ∙ same_flat_map (λ j. map (λ ends. lift braid ends w) (map (λ ends. insert ends (j - 1) (suc m)) (permutations m))) (lifts_with_last_at braid m w)
     (λ j. map-map (λ ends. lift braid ends w) (λ ends. insert ends (j - 1) (suc m)) (permutations m)) (up_to (suc m))
 
 pub lifts_are_summands : (braid : BraidValue) → IsBraid braid → (m : ℕ) (w : List ℕ) → length w ≡ suc m → IsWordOver braid.letters w → lifts braid w ≡ flat_map (lifted braid) (summands braid [] w)
 lifts_are_summands braid is m w size over =
     by_length braid m w size
-    ∙ ap (flat_map (block braid m w)) (up_to_is_consecutive (suc m) ∙ ap (consecutive 1) (sym size))
-    ∙ blocks_are_summands braid is m [] w w refl size over
+    ∙ ap (flat_map (lifts_with_last_at braid m w)) (up_to_is_consecutive (suc m) ∙ ap (consecutive 1) (sym size))
+    ∙ lifts_behind_are_summands braid is m [] w w refl size over

@@ -1,24 +1,12 @@
 -- Worked rows over the three transpositions with 101 elements and scalar -1: closed forms of lifts.
-use Rattle.std.proofs.Common.{◌≡◌, ℕ, List, [], ◌∷◌, refl, arith}
-use Rattle.std.specs.Prelude.{pos}
-use Rattle.nichols_field.specs.Field.{prime_field}
+use Rattle.std.proofs.Common.{◌≡◌, [], ◌∷◌, refl, arith}
 use Rattle.nichols_field.proofs.OnNumerals.{field_on_numerals}
-use Rattle.nichols_tensor.specs.Combination.{Term}
-use Rattle.nichols_braid.specs.Braid.{BraidValue, entry}
+use Rattle.nichols_tensor.proofs.Terms.{term}
+use Rattle.nichols_braid.specs.Braid.{entry}
 use Rattle.nichols_braid.specs.Crossing.{crossed_term}
 use Rattle.nichols_braid.specs.Lift.{IsDescending}
+use Rattle.nichols_braid.proofs.WorkedRows.{three}
 use Rattle.nichols_lift.specs.ClosedForm.{closed_form}
-
-abbrev three : BraidValue
-three = record {
-  field = prime_field (pos 101);
-  letters = 3;
-  rack = 1 ∷ 3 ∷ 2 ∷ 3 ∷ 2 ∷ 1 ∷ 2 ∷ 1 ∷ 3 ∷ [];
-  cocycle = 100 ∷ 100 ∷ 100 ∷ 100 ∷ 100 ∷ 100 ∷ 100 ∷ 100 ∷ 100 ∷ [];
-}
-
-abbrev term : List ℕ → ℕ → Term
-term w c = record { word = w; coefficient = c }
 
 closed_321 : closed_form three (3 ∷ 2 ∷ 1 ∷ []) (1 ∷ 2 ∷ 3 ∷ []) ≡ term (1 ∷ 3 ∷ 1 ∷ []) 100
 unfolding field_on_numerals entry closed_form

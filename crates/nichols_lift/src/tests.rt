@@ -1,22 +1,25 @@
 ghost use Rattle.std.specs.Prelude.{IfOk};
 ghost use Rattle.nichols_tensor.specs.Combination.{AllElements};
 ghost use Rattle.nichols_tensor.specs.Words.{IsOver};
+ghost use Rattle.nichols_lift.specs.declared.TheConstants.{PLACE_LIMIT};
 ghost use Rattle.nichols_lift.specs.Lengths.{AllAtMost};
 
 use super::*;
 use nichols_braid::Braid;
-use nichols_testing::{braid_with_constant, has_terms, three_transpositions, word, word_over};
+use nichols_testing::{
+    braid_with_constant, has_terms, one_letter, three_transpositions, word, word_over,
+};
 use nichols_words::{Comb, Word};
 use std::alloc::Global;
 use std::test::Fail;
 
-/// The image of a word of at most 7 letters.
+/// The image of a word of at most `PLACE_LIMIT` letters.
 fn image(alloc: Global, braid: &Braid, text: &str) -> Result<Comb, Fail> {
     let field = braid.field();
     let word = word_over(braid, text).ok_or("no word")?;
     let comb = Comb::single(alloc, field, word, field.from_i64(1))?;
-    if word.len() > 7 {
-        return Err("more than 7 letters".into());
+    if word.len() > PLACE_LIMIT {
+        return Err("too many letters".into());
     }
     let image = symmetrize(alloc, braid, &comb)?;
     Ok(image)
@@ -39,20 +42,20 @@ fn images_over_the_three_transpositions(rt: HostRuntime) -> Result<(), Fail> {
     Ok(())
 }
 
-/// A sum of words of at most 7 letters, and one word more.
+/// A sum of words of at most `PLACE_LIMIT` letters, and one word more.
 fn with_word(alloc: Global, braid: &Braid, sum: &Comb, text: &str) -> Result<Comb, Fail>
-    requires lengths { AllAtMost 7 sum.now }
+    requires lengths { AllAtMost PLACE_LIMIT sum.now }
     requires letters { IsOver braid.now.letters sum.now }
     requires elements { AllElements braid.now.field sum.now }
-    ensures lengths { IfOk result (AllAtMost 7) }
+    ensures lengths { IfOk result (AllAtMost PLACE_LIMIT) }
     ensures letters { IfOk result (IsOver braid.now.letters) }
     ensures elements { IfOk result (AllElements braid.now.field) }
 {
     let field = braid.field();
     let one = field.from_i64(1);
     let word = word_over(braid, text).ok_or("no word")?;
-    if word.len() > 7 {
-        return Err("more than 7 letters".into());
+    if word.len() > PLACE_LIMIT {
+        return Err("too many letters".into());
     }
     let single = Comb::single(alloc, field, word, one)?;
     let longer = sum.add_scaled(alloc, field, one, &single)?;
@@ -80,7 +83,7 @@ fn the_image_of_a_sum(rt: HostRuntime) -> Result<(), Fail> {
 fn images_of_powers(rt: HostRuntime) -> Result<(), Fail> {
     let minus = braid_with_constant(rt.alloc(), 7, &[&[1]], -1)?;
     assert!(rt; image(rt.alloc(), &minus, "1.1")?.is_zero());
-    let two = braid_with_constant(rt.alloc(), 7, &[&[1]], 2)?;
+    let two = one_letter(rt.alloc())?;
     assert!(rt; has_terms(&image(rt.alloc(), &two, "1.1")?, &[("1.1", 3)]));
     assert!(rt; image(rt.alloc(), &two, "1.1.1")?.is_zero());
     Ok(())

@@ -2,20 +2,19 @@
 #![tactic(auto)]
 
 use nichols_io::{StdSink, StdSource};
-use nichols_top::run;
+use nichols_top::{Status, run};
 use std::io;
 use std::process::ExitCode;
 
-/// The status where there is no memory for the words, or one of them isn't UTF-8.
-const NO_WORDS: u8 = 6;
-
 fn main(rt: HostRuntime) -> ExitCode {
     let alloc = rt.alloc();
+    // The answer where there is no memory for the words, or one of them isn't UTF-8.
+    let no_words = ExitCode::from(Status::Memory.code());
     let Ok(args) = std::env::args(&rt) else {
-        return ExitCode::from(NO_WORDS);
+        return no_words;
     };
     let Ok(words) = args.skip(1).collect::<Vec<String>>(alloc) else {
-        return ExitCode::from(NO_WORDS);
+        return no_words;
     };
     let mut source = StdSource::new(rt.reader());
     let mut sink = StdSink::new(io::writer(&rt));

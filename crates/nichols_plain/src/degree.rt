@@ -21,8 +21,8 @@ pub struct PlainDegree {
     pub relations: Vec<Relation>,
 }
 
-/// Degree m of the Nichols algebra of a braid, for m at most 7: the candidates whose images under the quantum symmetrizer are
-/// no combinations of the images of earlier ones, and how the others are.
+/// Degree m of the Nichols algebra of a braid, for m at most `PLACE_LIMIT`: the candidates whose images under the quantum
+/// symmetrizer are no combinations of the images of earlier ones, and how the others are.
 ///
 /// It works from degree 0 up. The columns of its matrices are all words of a degree, by their numbers.
 pub fn plain_degree(alloc: Global, braid: &Braid, m: u32) -> Result<PlainDegree, AllocError>

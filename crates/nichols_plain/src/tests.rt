@@ -1,5 +1,7 @@
 use super::*;
-use nichols_testing::{braid_with_constant, has_terms, has_words, three_transpositions, word};
+use nichols_testing::{
+    braid_with_constant, has_terms, has_words, one_letter, three_transpositions, word,
+};
 use nichols_words::Relation;
 use std::test::Fail;
 
@@ -45,7 +47,7 @@ fn degrees_over_the_three_transpositions(rt: HostRuntime) -> Result<(), Fail> {
 #[test]
 fn degrees_over_one_letter(rt: HostRuntime) -> Result<(), Fail> {
     let minus = braid_with_constant(rt.alloc(), 7, &[&[1]], -1)?;
-    let two = braid_with_constant(rt.alloc(), 7, &[&[1]], 2)?;
+    let two = one_letter(rt.alloc())?;
     if minus.letters() != 1 || two.letters() != 1 {
         return Err("not one letter".into());
     }

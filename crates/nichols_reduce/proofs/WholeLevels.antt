@@ -1,30 +1,22 @@
 -- The blocks of levels that the tests make are whole.
-use Rattle.std.proofs.Common.{◌≡◌, ◌⊎◌, ℕ, suc, ◌-◌, ◌<◌, ◌≤◌, true, List, [], length, map, get_or, take, sym, ◌∙◌, ap, subst, arith, inl, inr}
+use Rattle.std.proofs.Common.{◌≡◌, ◌⊎◌, ℕ, suc, ◌<◌, ◌≤◌, true, List, [], length, map, get_or, take, sym, ◌∙◌, ap, subst, arith, inl, inr}
 use Rattle.std.specs.List.{Contains}
 use Rattle.std.proofs.lemmas.Bool.{cases_lt}
 use Rattle.std.proofs.lemmas.List.{get_or_default, take_all}
-use Rattle.nichols_tensor.proofs.Entries.{in_map}
-use Rattle.nichols_tensor.proofs.Over.{all_at}
-use Rattle.nichols_tensor.proofs.Tests.{all_of_entries}
 use Rattle.nichols_tensor.specs.Positions.{word_at}
 use Rattle.nichols_braid.specs.declared.TheConstants.{MOST_ROWS}
 use Rattle.nichols_braid.specs.Braid.{BraidValue}
 use Rattle.nichols_braid.specs.Kernel.{is_killed}
-use Rattle.nichols_braid.specs.Product.{product_before}
 use Rattle.nichols_braid.specs.Products.{products, rows}
-use Rattle.nichols_value.specs.declared.key.BlockKey.{BlockKey}
-use Rattle.nichols_value.specs.declared.shared.LowerValue.{LowerValue}
 use Rattle.nichols_value.specs.declared.shared.Shared.{Shared}
 use Rattle.nichols_value.specs.declared.value.BlockValue.{BlockValue}
 use Rattle.nichols_value.specs.declared.value.BlockValue.TheVariants.{Rule, Starved}
-use Rattle.nichols_value.specs.Block.{is_whole, lower_letters}
+use Rattle.nichols_value.specs.Block.{is_whole}
 use Rattle.nichols_value.specs.Rule.{PlainRule, rule_of}
 use Rattle.nichols_value.specs.Value.{IsRight}
 use Rattle.nichols_value.specs.Worth.{worth}
-use Rattle.nichols_value.proofs.Blocks.{from_lower_letters}
-use Rattle.nichols_value.proofs.Wholes.{right_rule, rule_value, whole_below_first, whole_from}
+use Rattle.nichols_value.proofs.Wholes.{right_rule, whole_below_first, whole_from}
 use Rattle.nichols_block.specs.Levels.{rules_of}
-use Rattle.nichols_block.specs.Lower.{AreLowerRules, AreLowerValues}
 use Rattle.nichols_reduce.specs.Whole.{AreWhole, IsWholeRule}
 use Rattle.nichols_braid.proofs.FirstDegree.{first_rows}
 
@@ -33,19 +25,6 @@ first_is_whole braid last e m g below i =
     let few : rows is_killed braid 0 g ≤ 1 = first_rows is_killed braid g in
     let first : 0 ≡ m = omega (arith, e, below) in
     subst (λ d. is_whole braid MOST_ROWS d g ≡ true) first (whole_from braid MOST_ROWS 0 g (omega (arith, few)) (whole_below_first braid MOST_ROWS g))
-
--- the rules of lower blocks are right
-pub rules_are_right : (braid : BraidValue) (last : ℕ) (key : BlockKey) (lower : List LowerValue) → AreWhole braid last → key.degree ≡ suc last → AreLowerRules braid key lower → AreLowerValues braid MOST_ROWS key lower
-rules_are_right braid last key lower whole degree h = record {
-  letters = h.letters;
-  right = all_of_entries (λ (l : LowerValue). IsRight braid MOST_ROWS (key.degree - 1) (product_before braid l.letter key.product) (worth l.value)) lower (λ l i.
-      let below : last ≡ key.degree - 1 = omega (arith, degree) in
-      let listed : Contains (lower_letters braid (suc last) key.product) l.letter =
-      subst (λ d. Contains (lower_letters braid d key.product) l.letter) degree (subst (λ ls. Contains ls l.letter) h.letters (in_map (λ (v : LowerValue). v.letter) l lower i)) in
-      let own : is_whole braid MOST_ROWS last (product_before braid l.letter key.product) ≡ true = whole last (product_before braid l.letter key.product) (omega arith) (from_lower_letters braid last key.product l.letter listed).2 in
-      let rule = all_at (λ (v : LowerValue). worth v.value ≡ Rule (rule_of braid (key.degree - 1) (product_before braid v.letter key.product))) lower l h.rules i in
-      inl (rule ∙ sym (rule_value braid MOST_ROWS (key.degree - 1) (product_before braid l.letter key.product) (subst (λ d. is_whole braid MOST_ROWS d (product_before braid l.letter key.product) ≡ true) below own))));
-}
 
 -- a right value that is a rule
 pub whole_rule : (braid : BraidValue) (m : ℕ) (g : List ℕ) (value copy : BlockValue) (r : PlainRule) → IsRight braid MOST_ROWS m g value → (copy ≡ value) ⊎ (copy ≡ Starved) → copy ≡ Rule r → IsWholeRule braid m g copy

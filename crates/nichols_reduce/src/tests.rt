@@ -13,15 +13,10 @@ use super::*;
 use nichols_block::{BlockKey, BlockValue, Levels, Shared, lower_values, make};
 use nichols_braid::{Braid, MOST_DEGREES, MOST_ROWS, Product, Products};
 use nichols_tensor::WORD_LIMIT;
-use nichols_testing::{braid_with_constant, has_terms, word, word_over};
+use nichols_testing::{has_terms, tetrahedron, three_transpositions, word, word_over};
 use nichols_words::Comb;
 use std::alloc::{AllocError, Global};
 use std::test::Fail;
-
-const THREE: [&[i64]; 3] = [&[1, 3, 2], &[3, 2, 1], &[2, 1, 3]];
-
-/// The rack of the tetrahedron.
-const FOUR: [&[i64]; 4] = [&[1, 4, 2, 3], &[3, 2, 4, 1], &[4, 1, 3, 2], &[2, 3, 1, 4]];
 
 /// The rule of the block of the next degree and a product, or `None` where there was none.
 fn next_value(
@@ -79,9 +74,8 @@ fn longer(alloc: Global, levels: Levels) -> Result<Levels, Fail>
     Ok(levels)
 }
 
-/// The algebra of a rack over F_101 with the scalar -1, up to a degree, or to where it closes.
-fn levels_up_to(alloc: Global, rack: &[&[i64]], degree: u32) -> Result<Levels, Fail> {
-    let braid = braid_with_constant(alloc, 101, rack, -1)?;
+/// The algebra of a braid up to a degree, or to where it closes.
+fn levels_up_to(alloc: Global, braid: Braid, degree: u32) -> Result<Levels, Fail> {
     let mut levels = Levels::start(alloc, braid)?;
     for _step in 0..degree {
         if levels.last() < MOST_DEGREES && !levels.closed() {
@@ -155,7 +149,7 @@ fn has_answers(alloc: Global, levels: &Levels, rows: &[(Listed, Want)]) -> Resul
 #[test]
 fn three_transpositions_up_to_degree_4(rt: HostRuntime) -> Result<(), Fail> {
     let alloc = rt.alloc();
-    let levels = levels_up_to(alloc, &THREE, 4)?;
+    let levels = levels_up_to(alloc, three_transpositions(alloc)?, 4)?;
     assert_eq!(rt; levels.last(), 4);
     assert!(rt; !levels.closed());
     let rows: [(Listed, Want); 6] = [
@@ -180,7 +174,7 @@ fn three_transpositions_up_to_degree_4(rt: HostRuntime) -> Result<(), Fail> {
 #[test]
 fn three_transpositions_up_to_degree_2(rt: HostRuntime) -> Result<(), Fail> {
     let alloc = rt.alloc();
-    let levels = levels_up_to(alloc, &THREE, 2)?;
+    let levels = levels_up_to(alloc, three_transpositions(alloc)?, 2)?;
     let rows: [(Listed, Want); 4] = [
         (&[("1.2.1", 1), ("2.1.2", -1)], Want::Last(2)),
         (&[("3.1", 1)], Want::Terms(&[("1.2", 100), ("2.3", 100)])),
@@ -197,7 +191,7 @@ const SIXTY: &str =
 #[test]
 fn three_transpositions_closed(rt: HostRuntime) -> Result<(), Fail> {
     let alloc = rt.alloc();
-    let levels = levels_up_to(alloc, &THREE, 12)?;
+    let levels = levels_up_to(alloc, three_transpositions(alloc)?, 12)?;
     assert!(rt; levels.closed());
     assert_eq!(rt; word(SIXTY).len(), WORD_LIMIT);
     let rows: [(Listed, Want); 7] = [
@@ -218,9 +212,9 @@ fn three_transpositions_closed(rt: HostRuntime) -> Result<(), Fail> {
 
 /// Forms that were found by elimination on the images of all words under the quantum symmetrizer.
 #[test]
-fn tetrahedron(rt: HostRuntime) -> Result<(), Fail> {
+fn tetrahedron_up_to_degree_5(rt: HostRuntime) -> Result<(), Fail> {
     let alloc = rt.alloc();
-    let levels = levels_up_to(alloc, &FOUR, 5)?;
+    let levels = levels_up_to(alloc, tetrahedron(alloc)?, 5)?;
     let rows: [(Listed, Want); 5] = [
         (
             &[("4.2.1", 1)],

@@ -107,11 +107,11 @@ least_are_independent vanishes braid m all (w ∷ ws) (Independent ∷ places) h
 least_are_independent vanishes braid m all (w ∷ ws) (Depends cells ∷ places) h =
     least_are_independent vanishes braid m all ws places h.1 ∙ ap (λ b. cond b (w ∷ least_of vanishes braid ws) (least_of vanishes braid ws)) (sym h.0.0)
 
-pub independent_in-map : {X : Type 0} (f : List ℕ → X) (ws : List (List ℕ)) (places : List Place) → independent_in (map f ws) places ≡ map f (independent_in ws places)
+pub independent_in-map : {X Y : Type 0} (f : X → Y) (xs : List X) (places : List Place) → independent_in (map f xs) places ≡ map f (independent_in xs places)
 independent_in-map f [] places = refl
-independent_in-map f (w ∷ ws) [] = refl
-independent_in-map f (w ∷ ws) (Independent ∷ places) = ap (λ xs. f w ∷ xs) (independent_in-map f ws places)
-independent_in-map f (w ∷ ws) (Depends cells ∷ places) = independent_in-map f ws places
+independent_in-map f (x ∷ xs) [] = refl
+independent_in-map f (x ∷ xs) (Independent ∷ places) = ap (λ ys. f x ∷ ys) (independent_in-map f xs places)
+independent_in-map f (x ∷ xs) (Depends cells ∷ places) = independent_in-map f xs places
 
 relations_are_dependent : (vanishes : Vanishing) (braid : BraidValue) (m : ℕ) (all ws : List (List ℕ)) (places : List Place) → AllSaid (IsSaid vanishes braid m all) ws places → dependent_in all ws places ≡ relations_of vanishes braid m ws
 relations_are_dependent vanishes braid m all [] places h = refl

@@ -6,6 +6,7 @@ use Rattle.std.specs.Cmp.{nat_cmp_is}
 use Rattle.std.specs.Cmp.Lexicographic.{slice_cmp}
 use Rattle.std.specs.declared.cmp.Ordering.{Ordering}
 use Rattle.std.specs.declared.cmp.Ordering.TheVariants.{Less, Equal, Greater}
+use Rattle.std.proofs.lemmas.Cmp.{nat_list_cmp_total, tied_itself}
 use Rattle.nichols_tensor.specs.Combination.{Combination, AllAmong}
 use Rattle.nichols_tensor.specs.Words.{up_to, IsWordOver, IsOver, HasDegree, words, words_before}
 use Rattle.nichols_tensor.specs.WordOrder.{word_cmp, IsRising}
@@ -118,11 +119,7 @@ push_less u v a b e less =
 pub last_less : (u : List ℕ) (a b : ℕ) → a < b → word_cmp (u ++ a ∷ []) (u ++ b ∷ []) ≡ Less
 last_less u a b less =
     same_length_cmp (u ++ a ∷ []) (u ++ b ∷ []) (pushed_length u a ∙ sym (pushed_length u b)) ∙ slice_cmp-append u u (a ∷ []) (b ∷ []) refl
-    ∙ ap (λ o. ordering_then o (ordering_then (nat_cmp a b) Equal)) (itself u) ∙ ap (λ o. ordering_then o Equal) (number_below a b less)
-  where
-    itself : (v : List ℕ) → slice_cmp nat_cmp v v ≡ Equal
-    itself [] = refl
-    itself (c ∷ v) = ap (λ o. ordering_then o (slice_cmp nat_cmp v v)) (number_same c c refl) ∙ itself v
+    ∙ ap (λ o. ordering_then o (ordering_then (nat_cmp a b) Equal)) (tied_itself nat_list_cmp_total u) ∙ ap (λ o. ordering_then o Equal) (number_below a b less)
 
 -- ---- combinations of these words
 

@@ -1,25 +1,22 @@
 -- Combinations brought into order have the same values, and are the one combination in order that has them.
-use Rattle.std.proofs.Common.{◌≡◌, ℕ, cond, List, [], ◌∷◌, length, Contains, refl, sym, ◌∙◌, ap}
+use Rattle.std.proofs.Common.{◌≡◌, ℕ, List, [], ◌∷◌, length, Contains, refl, sym, ◌∙◌, ap}
 use Rattle.std.specs.List.{AllByRecursion}
 use Rattle.std.specs.declared.cmp.Ordering.{Ordering}
 use Rattle.std.specs.declared.cmp.Ordering.TheVariants.{Less, Equal, Greater}
 use Rattle.nichols_field.specs.Field.{FieldValue, IsField, IsElement, plus}
-use Rattle.nichols_field.proofs.FieldLaws.{plus_assoc, plus_is_element}
-use Rattle.nichols_field.proofs.FieldAlgebra.{swap_first, plus_chosen}
-use Rattle.nichols_tensor.specs.Combination.{Term, Combination, value_at, HasSameValues, same_letters, words_of, AllElements, AllAmong}
+use Rattle.nichols_field.proofs.FieldLaws.{plus_is_element}
+use Rattle.nichols_field.proofs.FieldAlgebra.{swap_first}
+use Rattle.nichols_tensor.specs.Combination.{Term, Combination, value_at, HasSameValues, words_of, AllElements, AllAmong}
 use Rattle.nichols_tensor.specs.InOrder.{with_term, rising_terms, in_order}
 use Rattle.nichols_tensor.specs.Laws.{IsTheOneInOrder}
 use Rattle.nichols_tensor.specs.WordOrder.{word_cmp, IsBelowFirst, IsRising, IsOrdered}
 use Rattle.nichols_tensor.specs.Words.{IsOver, HasDegree, IsWordOver}
 use Rattle.nichols_tensor.proofs.Values.{term_value}
-use Rattle.nichols_tensor.proofs.Order.{same_word, less_back}
+use Rattle.nichols_tensor.proofs.Terms.{added, value_at-added}
+use Rattle.nichols_tensor.proofs.Order.{less_back}
 use Rattle.nichols_tensor.proofs.Enumeration.{among_own_words}
 use Rattle.nichols_tensor.proofs.Ordered.{ordered_unique}
 use Rattle.nichols_tensor.proofs.Building.{value_at-without_zeros, all-without_zeros, ordered-without_zeros}
-
--- the sum of two terms of one word
-abbrev added : FieldValue → Term → Term → Term
-added k t u = record { word = u.word; coefficient = plus k t.coefficient u.coefficient }
 
 -- where a term goes, by how its word stands to the first one
 abbrev pub beside : FieldValue → Term → Term → Combination → Combination → Ordering → Combination
@@ -38,9 +35,7 @@ value_at-with_term k is t (u ∷ f) w = at (word_cmp t.word u.word) refl (value_
   where
     at : (o : Ordering) → word_cmp t.word u.word ≡ o → value_at k (with_term k t f) w ≡ plus k (term_value t w) (value_at k f w) → value_at k (beside k t u f (with_term k t f) o) w ≡ plus k (term_value t w) (value_at k (u ∷ f) w)
     at Less e later = refl
-    at Equal e later =
-        ap (λ n. plus k n (value_at k f w)) (sym (plus_chosen k (same_letters u.word w) t.coefficient u.coefficient is) ∙ ap (λ v. plus k (cond (same_letters v w) t.coefficient 0) (term_value u w)) (sym (same_word t.word u.word e)))
-        ∙ plus_assoc k (term_value t w) (term_value u w) (value_at k f w)
+    at Equal e later = value_at-added k is t u f w e
     at Greater e later = ap (plus k (term_value u w)) later ∙ swap_first k (term_value u w) (term_value t w) (value_at k f w)
 
 -- what holds of each word still does

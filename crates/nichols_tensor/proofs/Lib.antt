@@ -1,8 +1,10 @@
 pub mod Entries
+pub mod Sparse
 pub mod Values
 pub mod Linear
 pub mod Enumeration
 pub mod Order
+pub mod Terms
 pub mod Over
 pub mod Pushed
 pub mod Ordered

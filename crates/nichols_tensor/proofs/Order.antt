@@ -1,5 +1,5 @@
 -- The word order is total, and what follows of lists of words that rise.
-use Rattle.std.proofs.Common.{◌≡◌, ◌≢◌, ℕ, List, [], ◌∷◌, ◌++◌, length, refl, sym, ◌∙◌, ap}
+use Rattle.std.proofs.Common.{◌≡◌, ◌≢◌, ℕ, List, [], ◌∷◌, ◌++◌, length, refl, sym, ◌∙◌, ap, ◌⊎◌, inl, inr}
 use Rattle.std.specs.Ordering.{nat_cmp, eq_by_cmp, ordering_then, ordering_reverse}
 use Rattle.std.specs.declared.cmp.Ordering.{Ordering}
 use Rattle.std.specs.declared.cmp.Ordering.TheVariants.{Less, Equal, Greater}
@@ -9,6 +9,7 @@ use Rattle.std.specs.Cmp.{IsTotalOrder, IsEquivalence}
 use Rattle.std.proofs.lemmas.Cmp.{then_total, on_total, nat_cmp_total, nat_list_cmp_total, eq_by_cmp_equiv}
 use Rattle.nichols_tensor.specs.Combination.{Term, Combination, words_of}
 use Rattle.nichols_tensor.specs.WordOrder.{word_cmp, IsBelowFirst, IsRising}
+use Rattle.nichols_tensor.proofs.Sparse.{IsStrict, before_after}
 
 pub word_cmp_total : IsTotalOrder word_cmp
 word_cmp_total = then_total (on_total length nat_cmp_total) nat_list_cmp_total
@@ -44,6 +45,14 @@ word_cmp_itself w = own_reverse (word_cmp w w) (word_cmp_total.antisymm w w)
 pub less_is_other : (v w : List ℕ) → word_cmp v w ≡ Less → v ≢ w
 less_is_other v w h e = let c : Equal ≡ Less = sym (word_cmp_itself w) ∙ ap (λ u. word_cmp u w) (sym e) ∙ h in cc
 
+pub word_order : IsStrict (λ v w. word_cmp v w ≡ Less)
+word_order = record { apart = less_is_other; onward = word_cmp_total.trans; cases = λ v w. at v w (word_cmp v w) refl }
+  where
+    at : (v w : List ℕ) → (o : Ordering) → word_cmp v w ≡ o → (v ≡ w) ⊎ ((word_cmp v w ≡ Less) ⊎ (word_cmp w v ≡ Less))
+    at v w Less e = inr (inl e)
+    at v w Equal e = inl (same_word v w e)
+    at v w Greater e = inr (inr (less_back v w e))
+
 -- ---- lists of words that rise
 
 -- the words before a word, with it, and the words from it on
@@ -68,8 +77,7 @@ rising_back [] us h = h
 rising_back (v ∷ vs) us h = rising_back vs us h.1
 
 pub below_after : (v w : List ℕ) (us : List (List ℕ)) → word_cmp v w ≡ Less → IsBelowFirst w us → IsBelowFirst v us
-below_after v w [] h k = tt
-below_after v w (u ∷ us) h k = word_cmp_total.trans v w u h k
+below_after v w us h k = before_after word_order v w us h k
 
 below_without : (v : List ℕ) (vs : List (List ℕ)) (w : List ℕ) (us : List (List ℕ)) → IsBelowFirst v (vs ++ w ∷ us) → IsRising (vs ++ w ∷ us) → IsBelowFirst v (vs ++ us)
 below_without v [] w us h k = below_after v w us h k.0

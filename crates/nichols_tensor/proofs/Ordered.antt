@@ -3,16 +3,15 @@ use Rattle.std.proofs.Common.{◌≡◌, ◌≢◌, ℕ, Bool, true, false, cond
 use Rattle.std.specs.List.{Contains}
 use Rattle.std.proofs.lemmas.List.Elements.{Contains-append_left, Contains-append_right}
 use Rattle.std.specs.Cmp.Lexicographic.{same_text, other_text}
-use Rattle.std.specs.declared.cmp.Ordering.{Ordering}
-use Rattle.std.specs.declared.cmp.Ordering.TheVariants.{Less, Equal, Greater}
-use Rattle.nichols_field.specs.Field.{FieldValue, IsField, IsElement, plus, times}
-use Rattle.nichols_field.proofs.FieldLaws.{plus_comm, plus_zero, times_zero, zero_is_element}
-use Rattle.nichols_field.proofs.FieldAlgebra.{zero_plus, plus_cancel, chosen_is_element}
+use Rattle.nichols_field.specs.Field.{FieldValue, IsField, plus, times}
+use Rattle.nichols_field.proofs.FieldLaws.{plus_zero, times_zero, zero_is_element}
 use Rattle.nichols_tensor.specs.Combination.{Term, Combination, value_at, HasSameValues, same_letters, words_of, AllElements, AllAmong}
-use Rattle.nichols_tensor.specs.WordOrder.{word_cmp, IsBelowFirst, IsRising, IsOrdered}
+use Rattle.nichols_tensor.specs.WordOrder.{IsBelowFirst, IsRising, IsOrdered}
 use Rattle.nichols_tensor.proofs.Entries.{contains_none, contains_first, contains_later, contains_cases}
-use Rattle.nichols_tensor.proofs.Values.{term_value, value_is_element, same_itself}
-use Rattle.nichols_tensor.proofs.Order.{same_word, less_back, less_is_other, below_after}
+use Rattle.nichols_tensor.proofs.Sparse.{value_first, value_past, values_tell}
+use Rattle.nichols_tensor.proofs.Values.{terms}
+use Rattle.nichols_tensor.proofs.Terms.{term}
+use Rattle.nichols_tensor.proofs.Order.{word_order, less_is_other, below_after}
 
 -- ---- entries of lists of words
 
@@ -41,21 +40,6 @@ zero_at_others k is (t ∷ f) w none = at (same_letters t.word w) refl (zero_at_
     at true e rest = absurd (none (subst (Contains (words_of (t ∷ f))) (same_text t.word w (sym e)) (contains_first t.word (words_of f))))
     at false e rest = ap (plus k 0) rest ∙ plus_zero k 0 (zero_is_element k is)
 
--- at another word than that of the first term the value is that of the rest
-pub value_at_other : (k : FieldValue) → IsField k → (t : Term) (f : Combination) (w : List ℕ) → t.word ≢ w → value_at k (t ∷ f) w ≡ value_at k f w
-value_at_other k is t f w other = at (same_letters t.word w) refl
-  where
-    at : (b : Bool) → same_letters t.word w ≡ b → plus k (cond b t.coefficient 0) (value_at k f w) ≡ value_at k f w
-    at true e = absurd (other (same_text t.word w (sym e)))
-    at false e = zero_plus k (value_at k f w) (value_is_element k is f w)
-
--- at the first word of a combination whose words rise the value is the first coefficient
-pub value_at_first : (k : FieldValue) → IsField k → (t : Term) (f : Combination) → IsElement k t.coefficient → IsRising (words_of (t ∷ f)) → value_at k (t ∷ f) t.word ≡ t.coefficient
-value_at_first k is t f e r =
-    ap (λ b. plus k (cond b t.coefficient 0) (value_at k f t.word)) (same_itself t.word)
-    ∙ ap (plus k t.coefficient) (zero_at_others k is f t.word (before_all t.word (words_of f) r.0 r.1))
-    ∙ plus_zero k t.coefficient e
-
 pub rest_is_ordered : (t : Term) (f : Combination) → IsOrdered (t ∷ f) → IsOrdered f
 rest_is_ordered t f h = record { rising = h.rising.1; nonzero = h.nonzero.1 }
 
@@ -63,10 +47,10 @@ rest_is_ordered t f h = record { rising = h.rising.1; nonzero = h.nonzero.1 }
 pub nonzero_at_each : (k : FieldValue) → IsField k → (f : Combination) (w : List ℕ) → AllElements k f → IsOrdered f → Contains (words_of f) w → value_at k f w ≢ 0
 nonzero_at_each k is [] w e o i = absurd (contains_none w i)
 nonzero_at_each k is (t ∷ f) w e o i = λ z. elim (contains_cases t.word (words_of f) w i) [
-  | inl same ↦ o.nonzero.0 (sym (value_at_first k is t f e.0 o.rising) ∙ ap (value_at k (t ∷ f)) (sym same) ∙ z)
+  | inl same ↦ o.nonzero.0 (sym (value_first terms word_order k is t f e.0 o.rising) ∙ ap (value_at k (t ∷ f)) (sym same) ∙ z)
   | inr later ↦
       let other : t.word ≢ w = λ same. before_all t.word (words_of f) o.rising.0 o.rising.1 (subst (Contains (words_of f)) (sym same) later) in
-      nonzero_at_each k is f w e.1 (rest_is_ordered t f o) later (sym (value_at_other k is t f w other) ∙ z)
+      nonzero_at_each k is f w e.1 (rest_is_ordered t f o) later (sym (value_past terms k is t f w other) ∙ z)
 ]
 
 -- a combination in order has no words but those at which it isn't 0
@@ -95,40 +79,7 @@ among_sum k is by f g h e o values = among_nonzero k is h (words_of f ++ words_o
 
 -- ---- the values determine the terms
 
-empty_if_zero : (k : FieldValue) → IsField k → (u : Term) (g : Combination) → AllElements k (u ∷ g) → IsOrdered (u ∷ g) → value_at k (u ∷ g) u.word ≡ 0 → ⊥
-empty_if_zero k is u g e o z = o.nonzero.0 (sym (value_at_first k is u g e.0 o.rising) ∙ z)
-
--- the word of t stands before the first word of g, so that only the first of the two combinations has it
-differ_at_first : (k : FieldValue) → IsField k → (t : Term) (f g : Combination) → AllElements k (t ∷ f) → IsOrdered (t ∷ f) → IsBelowFirst t.word (words_of g) → IsRising (words_of g) → value_at k (t ∷ f) t.word ≡ value_at k g t.word → ⊥
-differ_at_first k is t f g e o below rising same = empty_if_zero k is t f e o (same ∙ zero_at_others k is g t.word (before_all t.word (words_of g) below rising))
-
-same_rest : (k : FieldValue) → IsField k → (t : Term) (f g : Combination) → IsElement k t.coefficient → HasSameValues k (t ∷ f) (t ∷ g) → HasSameValues k f g
-same_rest k is t f g e same w =
-    let c : ℕ = term_value t w in
-    plus_cancel k (value_at k f w) (value_at k g w) c is (value_is_element k is f w) (value_is_element k is g w) (chosen_is_element k (same_letters t.word w) t.coefficient is e)
-    (plus_comm k (value_at k f w) c ∙ same w ∙ plus_comm k c (value_at k g w))
-
-term_of : List ℕ → ℕ → Term
-term_of w c = record { word = w; coefficient = c }
-
-same_term : (t u : Term) → t.word ≡ u.word → t.coefficient ≡ u.coefficient → t ≡ u
-unfolding term_of
-same_term t u p q = ap₂ term_of p q
-
 -- combinations in order with the same values are one list of terms
 pub ordered_unique : (k : FieldValue) → IsField k → (f g : Combination) → AllElements k f → AllElements k g → IsOrdered f → IsOrdered g → HasSameValues k f g → f ≡ g
-ordered_unique k is [] [] ef eg f_ordered g_ordered same = refl
-ordered_unique k is [] (u ∷ g) ef eg f_ordered g_ordered same = absurd (empty_if_zero k is u g eg g_ordered (sym (same u.word)))
-ordered_unique k is (t ∷ f) [] ef eg f_ordered g_ordered same = absurd (empty_if_zero k is t f ef f_ordered (same t.word))
-ordered_unique k is (t ∷ f) (u ∷ g) ef eg f_ordered g_ordered same =
-    at (word_cmp t.word u.word) refl (λ same_words. ordered_unique k is f g ef.1 eg.1 (rest_is_ordered t f f_ordered) (rest_is_ordered u g g_ordered) same_words)
-  where
-    at : (o : Ordering) → word_cmp t.word u.word ≡ o → (HasSameValues k f g → f ≡ g) → ◌≡◌ {A = Combination} (t ∷ f) (u ∷ g)
-    at Less e rest = absurd (differ_at_first k is t f (u ∷ g) ef f_ordered e g_ordered.rising (same t.word))
-    at Greater e rest = absurd (differ_at_first k is u g (t ∷ f) eg g_ordered (less_back t.word u.word e) f_ordered.rising (sym (same u.word)))
-    at Equal e rest =
-        let words : t.word ≡ u.word = same_word t.word u.word e in
-        let coefficients : t.coefficient ≡ u.coefficient =
-        sym (value_at_first k is t f ef.0 f_ordered.rising) ∙ same t.word ∙ ap (value_at k (u ∷ g)) words ∙ value_at_first k is u g eg.0 g_ordered.rising in
-        let terms : t ≡ u = same_term t u words coefficients in
-        ap₂ (λ s r. s ∷ r) terms (rest (same_rest k is t f g ef.0 (subst (λ s. HasSameValues k (t ∷ f) (s ∷ g)) (sym terms) same)))
+ordered_unique k is f g ef eg f_ordered g_ordered same =
+    values_tell terms word_order k is (λ t u. ap₂ term) f g ef eg f_ordered.rising g_ordered.rising f_ordered.nonzero g_ordered.nonzero same

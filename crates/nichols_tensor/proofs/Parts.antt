@@ -1,8 +1,8 @@
 -- Parts of combinations: of sums, of multiples and of images, what they keep, and that they make the whole.
 use Rattle.std.proofs.Common.{◌≡◌, ◌≢◌, ℕ, zero, suc, ◌+◌, ◌<◌, ◌≤◌, Bool, true, false, cond, nat_eq, List, [], ◌∷◌, ◌++◌, length, flat_map, Contains, refl, sym, ◌∙◌, ap, ap₂, arith, ◌⊎◌, inl, inr}
 use Rattle.std.specs.List.{AllByRecursion, range_with_len}
-use Rattle.std.proofs.lemmas.Bool.{cases_lt, cases_eq}
-use Rattle.std.proofs.lemmas.Bool.Decides.{Decides-eqb, eqb_tells}
+use Rattle.std.proofs.lemmas.Bool.{cases_lt, cases_eq, ne_eqb}
+use Rattle.std.proofs.lemmas.Bool.Decides.{Decides-eqb}
 use Rattle.std.proofs.lemmas.List.Elements.{filter-append}
 use Rattle.nichols_field.specs.Field.{FieldValue, IsField, IsElement, plus}
 use Rattle.nichols_field.proofs.FieldLaws.{plus_zero, zero_is_element}
@@ -75,9 +75,6 @@ ordered-part test f h = record {
 pub degree-part : (m : ℕ) (f : Combination) → HasDegree m (part_of_degree m f)
 degree-part m f = passes-filter (λ t. length t.word ≡ m) (λ t. nat_eq (length t.word) m) (λ t passes. (Decides-eqb (length t.word) m).0 passes) f
 
-unequal_by_test : (a b : ℕ) → a ≢ b → nat_eq a b ≡ false
-unequal_by_test a b other = elim (eqb_tells a b) [ inl same ↦ absurd (other same.1) | inr apart ↦ apart.0 ]
-
 -- a combination of one degree is its part of this degree, and has no others
 pub part_of_own_degree : (m : ℕ) (f : Combination) → HasDegree m f → part_of_degree m f ≡ f
 part_of_own_degree m f h =
@@ -87,7 +84,7 @@ part_of_own_degree m f h =
 pub part_of_other_degree : (m n : ℕ) (f : Combination) → HasDegree m f → n ≢ m → part_of_degree n f ≡ []
 part_of_other_degree m n f h other =
     part_of_none (λ w. nat_eq (length w) n) f
-    (all-weaker (λ t. length t.word ≡ m) (λ t. nat_eq (length t.word) n ≡ false) (λ t e. unequal_by_test (length t.word) n (λ d. other (sym d ∙ e))) f h)
+    (all-weaker (λ t. length t.word ≡ m) (λ t. nat_eq (length t.word) n ≡ false) (λ t e. ne_eqb (length t.word) n (λ d. other (sym d ∙ e))) f h)
 
 pub parts_have_their_degrees : (f : Combination) → HasPartsByDegree f
 parts_have_their_degrees f = record {
@@ -110,7 +107,7 @@ value_outside : (k : FieldValue) → IsField k → (f : Combination) (a n : ℕ)
 value_outside k is f a zero w outside = refl
 value_outside k is f a (suc n) w outside =
     value_at-parts k is f a (range_with_len (a + 1) n) w
-    ∙ ap₂ (λ b v. plus k (cond b (value_at k f w) 0) v) (unequal_by_test (length w) a (λ e. elim outside [ inl less ↦ omega arith | inr more ↦ omega arith ]))
+    ∙ ap₂ (λ b v. plus k (cond b (value_at k f w) 0) v) (ne_eqb (length w) a (λ e. elim outside [ inl less ↦ omega arith | inr more ↦ omega arith ]))
     (value_outside k is f (a + 1) n w (elim outside [ inl less ↦ inl (omega arith) | inr more ↦ inr (omega arith) ]))
     ∙ plus_zero k 0 (zero_is_element k is)
 
@@ -121,7 +118,7 @@ value_within k is f a (suc n) w from to =
     value_at-parts k is f a (range_with_len (a + 1) n) w
     ∙ elim (cases_eq (length w) a) [
       | inl same ↦ ap₂ (λ b v. plus k (cond b (value_at k f w) 0) v) ((Decides-eqb (length w) a).1 same) (value_outside k is f (a + 1) n w (inl (omega arith))) ∙ plus_zero k (value_at k f w) (value_is_element k is f w)
-      | inr other ↦ ap₂ (λ b v. plus k (cond b (value_at k f w) 0) v) (unequal_by_test (length w) a other) (value_within k is f (a + 1) n w (omega arith) (omega arith)) ∙ zero_plus k (value_at k f w) (value_is_element k is f w)
+      | inr other ↦ ap₂ (λ b v. plus k (cond b (value_at k f w) 0) v) (ne_eqb (length w) a other) (value_within k is f (a + 1) n w (omega arith) (omega arith)) ∙ zero_plus k (value_at k f w) (value_is_element k is f w)
     ]
 
 longest_is : (f : Combination) (w : List ℕ) → Contains (words_of f) w → length w ≤ longest f

@@ -1,16 +1,14 @@
 -- Worked rows over 7 elements: combinations brought into order, and parts of combinations.
-use Rattle.std.proofs.Common.{◌≡◌, ℕ, pos, List, [], ◌∷◌, map, refl}
+use Rattle.std.proofs.Common.{◌≡◌, pos, [], ◌∷◌, map, refl}
 use Rattle.nichols_field.specs.Field.{FieldValue, prime_field}
 use Rattle.nichols_field.proofs.OnNumerals.{field_on_numerals}
-use Rattle.nichols_tensor.specs.Combination.{Term, Combination}
+use Rattle.nichols_tensor.specs.Combination.{Combination}
 use Rattle.nichols_tensor.specs.InOrder.{with_term, rising_terms, in_order}
 use Rattle.nichols_tensor.specs.Parts.{part_of_degree, longest, degrees_of}
+use Rattle.nichols_tensor.proofs.Terms.{term}
 
 abbrev seven : FieldValue
 seven = prime_field (pos 7)
-
-abbrev term : List ℕ → ℕ → Term
-term w c = record { word = w; coefficient = c }
 
 -- 3*2.1 + 5*1 + 4*[] + 6*2.1 + 2*1 + 1*1.2, where `[]` is the empty word
 abbrev mixed : Combination

@@ -1,7 +1,7 @@
 -- Elements of the tensor algebra over a field: finite combinations of words.
 use Rattle.std.specs.Prelude.{◌≡◌, ◌≢◌, ℕ, Bool, List, [], ◌∷◌, ◌++◌, map, filter, not, if◌then◌else◌, nat_eq}
 use Rattle.std.specs.List.{flat_map, list_all, AllByRecursion, Contains}
-use Rattle.nichols_field.specs.Field.{FieldValue, IsElement, plus, times, negative}
+use Rattle.nichols_field.specs.Field.{FieldValue, IsElement, times, negative, sum_by}
 use lib.Pointwise.{pointwise}
 
 -- a word, a list of letters, with its coefficient
@@ -18,8 +18,7 @@ same_letters = pointwise nat_eq
 
 -- the value at a word: the sum of the coefficients there
 abbrev pub value_at : FieldValue → Combination → List ℕ → ℕ
-value_at field [] w = 0
-value_at field (t ∷ f) w = plus field (if same_letters t.word w then t.coefficient else 0) (value_at field f w)
+value_at field f w = sum_by field (λ t. if same_letters t.word w then t.coefficient else 0) f
 
 -- two combinations are equal: their values are equal at every word
 abbrev pub HasSameValues : FieldValue → Combination → Combination → Type 0

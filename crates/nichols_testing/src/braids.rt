@@ -48,6 +48,23 @@ pub fn three_transpositions(alloc: Global) -> Result<Braid, Fail> {
     braid_with_constant(alloc, 101, &rack, -1)
 }
 
+/// The rack of the tetrahedron over 101 elements, with the scalar -1.
+pub fn tetrahedron(alloc: Global) -> Result<Braid, Fail> {
+    let rack: [&[i64]; 4] = [&[1, 4, 2, 3], &[3, 2, 4, 1], &[4, 1, 3, 2], &[2, 3, 1, 4]];
+    braid_with_constant(alloc, 101, &rack, -1)
+}
+
+/// The three transpositions of three points over five elements, with scalars that differ.
+pub fn twisted_transpositions(alloc: Global) -> Result<Braid, Fail> {
+    let rack: [&[i64]; 3] = [&[1, 3, 2], &[3, 2, 1], &[2, 1, 3]];
+    braid_with_table(alloc, 5, &rack, &[&[3, 3, 3], &[1, 3, -1], &[1, -1, -2]])
+}
+
+/// Two letters that act as the identity, over 101 elements, with the scalar -1 but for `q(1, 2)`, which is 1.
+pub fn two_letters(alloc: Global) -> Result<Braid, Fail> {
+    braid_with_table(alloc, 101, &[&[1, 2], &[1, 2]], &[&[-1, 1], &[-1, -1]])
+}
+
 /// One letter with the scalar 2 over seven elements: the third power is zero.
 pub fn one_letter(alloc: Global) -> Result<Braid, Fail> {
     braid_with_constant(alloc, 7, &[&[1]], 2)

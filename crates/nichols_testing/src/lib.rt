@@ -6,5 +6,8 @@
 mod braids;
 mod words;
 
-pub use braids::{braid_with_constant, braid_with_table, one_letter, three_transpositions};
+pub use braids::{
+    braid_with_constant, braid_with_table, one_letter, tetrahedron, three_transpositions,
+    twisted_transpositions, two_letters,
+};
 pub use words::{has_terms, has_words, word, word_over};

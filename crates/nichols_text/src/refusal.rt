@@ -21,7 +21,7 @@ pub enum Refusal {
     TooLong,
     /// The document isn't read.
     Input(InputFault),
-    /// An expression has a word of more than 7 letters, which is not symmetrized: the number, from 1, of the first that has one.
+    /// An expression has a word that is too long to be symmetrized: the number, from 1, of the first that has one.
     LongExpression(u32),
 }
 

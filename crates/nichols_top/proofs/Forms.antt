@@ -13,34 +13,34 @@ use Rattle.nichols_braid.specs.WholeForm.{normal_form_by_parts}
 use Rattle.nichols_lift.proofs.Readings.{one_reading}
 use Rattle.nichols_graded.specs.Graded.{GradedValue, IsGraded}
 use Rattle.nichols_graded.specs.declared.ends.Stop.{Stop}
-use Rattle.nichols_reduce.specs.Normal as reduced
+use Rattle.nichols_reduce.specs.Normal.{is_beyond, normal_of}
 use Rattle.nichols_reduce.specs.declared.answer.Normal.{Normal}
 use Rattle.nichols_reduce.specs.declared.answer.Normal.TheVariants.{Form, Beyond}
 use Rattle.nichols_reduce.proofs.ReduceLaws.{forms_have_one_reading}
 use Rattle.nichols_text.specs.Expressions.{form_line, beyond_line}
 use Rattle.nichols_top.specs.Ended.{HasEnd}
 use Rattle.nichols_top.specs.NormalLine.{normal_line}
-use Rattle.nichols_top.specs.Reduce.{is_beyond}
+use Rattle.nichols_top.specs.Reduce.{is_beyond_stop}
 use Rattle.nichols_top.proofs.EndLines.{closed_is_empty, stopped_is_filled}
 
 -- a degree is empty for the derivations where it is for the symmetrizer
 empty_alike : (braid : BraidValue) → IsBraid braid → (m : ℕ) → is_empty_degree is_killed braid m ≡ is_empty_degree is_in_kernel braid m
 empty_alike braid is m = ap (λ ws. nat_eq (length ws) 0) (sym ((one_reading braid is).alike.bases m))
 
-beyond_is : (g : GradedValue) (stop : Option Stop) (f : Combination) → IsGraded g → HasEnd g stop → reduced.is_beyond g.braid g.last f ≡ is_beyond stop g.last f
-unfolding reduced.is_beyond
+beyond_is : (g : GradedValue) (stop : Option Stop) (f : Combination) → IsGraded g → HasEnd g stop → is_beyond g.braid g.last f ≡ is_beyond_stop stop g.last f
+unfolding is_beyond
 beyond_is g None f is reached =
     ap (λ b. nat_lt g.last (longest f) && not b) (empty_alike g.braid is.braid g.last ∙ closed_is_empty g is reached) ∙ and_right (nat_lt g.last (longest f)) false refl
 beyond_is g (Some stop) f is reached =
     ap (λ b. nat_lt g.last (longest f) && not b) (empty_alike g.braid is.braid g.last ∙ (stopped_is_filled g stop is reached).filled) ∙ and-true (nat_lt g.last (longest f))
 
 -- the line of what the reduction answers
-pub normal_line_is : (g : GradedValue) (stop : Option Stop) (k : ℕ) (f : Combination) (n : Normal) → IsGraded g → HasEnd g stop → IsOver g.braid.letters f → n ≡ reduced.normal_of g.braid g.last f →
-    normal_line k n ≡ cond (is_beyond stop g.last f) (beyond_line k g.last) (form_line k (normal_form_by_parts is_in_kernel g.braid f))
-unfolding reduced.normal_of
+pub normal_line_is : (g : GradedValue) (stop : Option Stop) (k : ℕ) (f : Combination) (n : Normal) → IsGraded g → HasEnd g stop → IsOver g.braid.letters f → n ≡ normal_of g.braid g.last f →
+    normal_line k n ≡ cond (is_beyond_stop stop g.last f) (beyond_line k g.last) (form_line k (normal_form_by_parts is_in_kernel g.braid f))
+unfolding normal_of
 normal_line_is g stop k f n is reached over e =
     ap (normal_line k) e ∙ ap (λ b. normal_line k (cond b (Beyond g.last) (Form (normal_form_by_parts is_killed g.braid f)))) (beyond_is g stop f is reached)
-    ∙ at (is_beyond stop g.last f)
+    ∙ at (is_beyond_stop stop g.last f)
   where
     at : (b : Bool) → normal_line k (cond b (Beyond g.last) (Form (normal_form_by_parts is_killed g.braid f))) ≡ cond b (beyond_line k g.last) (form_line k (normal_form_by_parts is_in_kernel g.braid f))
     at true = refl

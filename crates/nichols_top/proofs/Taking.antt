@@ -6,6 +6,7 @@ use Rattle.std.specs.Option.{option_or}
 use Rattle.std.proofs.Math.Seq.{take-append-add}
 use Rattle.std.proofs.lemmas.List.{take-append-le}
 use Rattle.std.specs.Io.KnownBytes.{Appends}
+use Rattle.nichols_braid.proofs.Search.{or_assoc}
 use Rattle.nichols_io.specs.Bytes.{AppendsProperPrefix}
 use Rattle.nichols_io.specs.Counts.{Rose}
 use Rattle.nichols_top.specs.Report.{Piece, piece, text_of, last_degree}
@@ -48,13 +49,9 @@ pub option_or-none : (o : Option ℕ) → option_or o None ≡ o
 option_or-none None = refl
 option_or-none (Some n) = refl
 
-option_or_assoc : (a b c : Option ℕ) → option_or (option_or a b) c ≡ option_or a (option_or b c)
-option_or_assoc None b c = refl
-option_or_assoc (Some n) b c = refl
-
 last_degree-append : (ps qs : List Piece) → last_degree (ps ++ qs) ≡ option_or (last_degree qs) (last_degree ps)
 last_degree-append [] qs = sym (option_or-none (last_degree qs))
-last_degree-append (p ∷ ps) qs = ap (λ o. option_or o p.degree) (last_degree-append ps qs) ∙ option_or_assoc (last_degree qs) (last_degree ps) p.degree
+last_degree-append (p ∷ ps) qs = ap (λ o. option_or o p.degree) (last_degree-append ps qs) ∙ or_assoc (last_degree qs) (last_degree ps) p.degree
 
 pub takes_nothing : {a : Written} → Takes [] a a
 takes_nothing {a} = record { sink = took_nothing; last = refl }
@@ -62,7 +59,7 @@ takes_nothing {a} = record { sink = took_nothing; last = refl }
 pub takes_more : {ps qs : List Piece} {a b c : Written} → Takes ps a b → Takes qs b c → Takes (ps ++ qs) a c
 takes_more {ps} {qs} {a} {b} {c} p q = record {
   sink = subst (λ t. Took t a.sink c.sink) (sym (text_of-append ps qs)) (took_more p.sink q.sink);
-  last = q.last ∙ ap (option_or (last_degree qs)) p.last ∙ sym (option_or_assoc (last_degree qs) (last_degree ps) a.last) ∙ ap (λ o. option_or o a.last) (sym (last_degree-append ps qs));
+  last = q.last ∙ ap (option_or (last_degree qs)) p.last ∙ sym (or_assoc (last_degree qs) (last_degree ps) a.last) ∙ ap (λ o. option_or o a.last) (sym (last_degree-append ps qs));
 }
 
 pub breaks_first : {ps : List Piece} {a b : Written} {cause : Break} (qs : List Piece) → BreaksIn ps a b cause → BreaksIn (ps ++ qs) a b cause

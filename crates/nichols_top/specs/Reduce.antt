@@ -12,13 +12,13 @@ use Rattle.nichols_top.specs.Algebra.{Scope, degrees_in, stop_in, pieces_due, st
 use Rattle.nichols_top.specs.Report.{Piece, piece, numbered_pieces, Report}
 
 -- whether a normal form isn't known: the algebra isn't closed, and a word is longer than its last finished degree
-abbrev pub is_beyond : Option Stop → ℕ → Combination → Bool
-is_beyond None last f = false
-is_beyond (Some s) last f = nat_lt last (longest f)
+abbrev pub is_beyond_stop : Option Stop → ℕ → Combination → Bool
+is_beyond_stop None last f = false
+is_beyond_stop (Some s) last f = nat_lt last (longest f)
 
 -- the normal form of an expression, or the last finished degree, with the number of the expression
 unfoldable pub form_due : BraidValue → Option Stop → ℕ → ℕ → Combination → Piece
-form_due braid e last k f = piece (if is_beyond e last f then beyond_line k last else form_line k (normal_form_by_parts is_in_kernel braid f)) None
+form_due braid e last k f = piece (if is_beyond_stop e last f then beyond_line k last else form_line k (normal_form_by_parts is_in_kernel braid f)) None
 
 -- the normal forms of a document's expressions
 abbrev pub forms_due : DocumentValue → Scope → List Piece

@@ -11,6 +11,7 @@ mod symmetrize;
 mod writer;
 
 pub use entry::run;
+pub use status::Status;
 
 #[cfg(test)]
 mod tests;

@@ -5,7 +5,7 @@ ghost use Rattle.nichols_top.specs.Status.{code};
 
 /// How a run ends.
 #[derive(Clone, Copy, Debug, PartialEq, Eq)]
-pub(crate) enum Status {
+pub enum Status {
     /// The whole report was taken, and nothing stopped it.
     Complete,
     /// The words aren't a command.
@@ -24,7 +24,7 @@ pub(crate) enum Status {
 
 impl Status {
     /// The exit status of the program.
-    pub(crate) fn code(self) -> u8
+    pub fn code(self) -> u8
         ensures { result ≡ code self }
     {
         match self {

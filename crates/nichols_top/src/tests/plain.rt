@@ -2,28 +2,15 @@
 
 use nichols_braid::Braid;
 use nichols_graded::Graded;
+use nichols_lift::PLACE_LIMIT;
 use nichols_plain::plain_degree;
-use nichols_testing::{braid_with_constant, braid_with_table, one_letter, three_transpositions};
+use nichols_testing::{
+    one_letter, tetrahedron, three_transpositions, twisted_transpositions, two_letters,
+};
 use nichols_words::Relation;
 use std::alloc::Global;
 use std::test::Fail;
 use std::thread::Threads;
-
-fn tetrahedron(alloc: Global) -> Result<Braid, Fail> {
-    let rack: [&[i64]; 4] = [&[1, 4, 2, 3], &[3, 2, 4, 1], &[4, 1, 3, 2], &[2, 3, 1, 4]];
-    braid_with_constant(alloc, 101, &rack, -1)
-}
-
-/// Two letters that act as the identity, and the scalar -1 but for `q(1, 2)`, which is 1.
-fn two_letters(alloc: Global) -> Result<Braid, Fail> {
-    braid_with_table(alloc, 101, &[&[1, 2], &[1, 2]], &[&[-1, 1], &[-1, -1]])
-}
-
-/// The three transpositions over five elements, with scalars that differ.
-fn twisted(alloc: Global) -> Result<Braid, Fail> {
-    let rack: [&[i64]; 3] = [&[1, 3, 2], &[3, 2, 1], &[2, 1, 3]];
-    braid_with_table(alloc, 5, &rack, &[&[3, 3, 3], &[1, 3, -1], &[1, -1, -2]])
-}
 
 fn are_same(left: &[Relation], right: &[Relation]) -> bool {
     left.len() == right.len()
@@ -35,7 +22,10 @@ fn are_same(left: &[Relation], right: &[Relation]) -> bool {
 /// Whether a finished degree has the basis and the relations that the plain program gives.
 fn is_plain(alloc: Global, graded: &Graded, m: u32) -> Result<bool, Fail> {
     let braid = graded.levels().braid();
-    if m > 7 || m > graded.levels().last() || u32::from(braid.letters()).checked_pow(m).is_none() {
+    if m > PLACE_LIMIT as u32
+        || m > graded.levels().last()
+        || u32::from(braid.letters()).checked_pow(m).is_none()
+    {
         return Err("not within the limits".into());
     }
     let plain = plain_degree(alloc, braid, m)?;
@@ -77,7 +67,7 @@ fn degrees_of_the_plain_program(rt: HostRuntime) -> Result<(), Fail> {
         (three_transpositions(alloc)?, 5),
         (tetrahedron(alloc)?, 4),
         (two_letters(alloc)?, 6),
-        (twisted(alloc)?, 5),
+        (twisted_transpositions(alloc)?, 5),
     ];
     for (braid, degrees) in rows {
         let letters = braid.letters();

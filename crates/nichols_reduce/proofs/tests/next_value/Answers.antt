@@ -3,7 +3,8 @@ use Rattle.nichols_braid.specs.declared.TheConstants.{MOST_ROWS}
 use Rattle.nichols_value.specs.declared.key.BlockKey.{BlockKey}
 use Rattle.nichols_value.specs.Value.{IsRight}
 use Rattle.nichols_block.specs.Lower.{AreLowerRules, AreLowerValues}
-use Rattle.nichols_reduce.proofs.WholeLevels.{rules_are_right, whole_rule}
+use Rattle.nichols_block.proofs.LowerRules.{rules_are_right}
+use Rattle.nichols_reduce.proofs.WholeLevels.{whole_rule}
 use Rattle.nichols_reduce.proofs.tests.next_value.Goals as goal
 
 pub make-value-requires-clause-lower : goal.make-value-requires-clause-lower
@@ -11,7 +12,8 @@ make-value-requires-clause-lower c =
     let key : BlockKey = record { degree = c.last.result + 1; product = c.args.product.now } in
     let degree : c.last.result + 1 ≡ suc c.args.levels.now.last = omega (arith, c.last.ensures.value) in
     subst (λ b. AreLowerValues b MOST_ROWS key c.as_slice.result.now) (sym c.braid.ensures)
-    (rules_are_right c.args.levels.now.braid c.args.levels.now.last key c.as_slice.result.now c.requires.whole degree (subst (AreLowerRules c.args.levels.now.braid key) (sym c.as_slice.ensures.value) c.in_ok-lower.ensures))
+    (rules_are_right c.args.levels.now.braid MOST_ROWS c.args.levels.now.last key c.as_slice.result.now degree (λ g i. c.requires.whole c.args.levels.now.last g (omega arith) i)
+    (subst (AreLowerRules c.args.levels.now.braid key) (sym c.as_slice.ensures.value) c.in_ok-lower.ensures))
 
 pub returns-in-Some-Rule : goal.returns-in-Some-Rule
 returns-in-Some-Rule c =

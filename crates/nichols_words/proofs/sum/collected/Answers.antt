@@ -1,9 +1,11 @@
-use Rattle.std.proofs.Common.{rules, ◌≡◌, ◌∷◌, ℕ, ◌+◌, Bool, true, false, drop, refl, sym, ◌∙◌, ap, subst}
+use Rattle.std.proofs.Common.{rules, ◌≡◌, ◌∷◌, ℕ, ◌+◌, Bool, true, false, drop, sym, ◌∙◌, ap, subst}
 use Rattle.std.proofs.lemmas.List.{drop_more}
 use Rattle.std.proofs.Math.ListN.{drop_of_length-le}
 use Rattle.nichols_field.specs.Field.{FieldValue, IsElement, plus}
+use Rattle.nichols_field.proofs.FieldLaws.{plus_comm}
 use Rattle.nichols_tensor.specs.Combination.{Term, without_zeros}
-use Rattle.nichols_words.proofs.Gathering.{added, gathered, gathering_start, gathering-same, gathering-other, gathering-end, gathered_value, gathered_shape, gathered_elements}
+use Rattle.nichols_tensor.proofs.Terms.{term, added}
+use Rattle.nichols_words.proofs.Gathering.{gathered, gathering_start, gathering-same, gathering-other, gathering-end, gathered_value, gathered_shape, gathered_elements}
 use Rattle.nichols_words.proofs.sum.collected.Goals.{then-eq, else-eq+in_ok-put_nonzero, Joined-eq, In_ok-put_nonzero-2}
 use Rattle.nichols_words.proofs.sum.collected.Goals as goal
 use Rattle.nichols_tensor.specs.Gathered.{are_one}
@@ -12,8 +14,8 @@ use Rattle.nichols_tensor.specs.Gathered.{are_one}
 tested : (t last seen_t seen_last : Term) (b : Bool) → t ≡ seen_t → last ≡ seen_last → b ≡ are_one t.word last.word → are_one seen_t.word seen_last.word ≡ b
 tested t last seen_t seen_last b e d h = rw (← e, ← d) (sym h)
 
-sum_of_two : (k : FieldValue) (last t seen_last seen_t : Term) (n : ℕ) → last ≡ seen_last → t ≡ seen_t → n ≡ plus k last.coefficient t.coefficient → ◌≡◌ {A = Term} (record { word = last.word; coefficient = n }) (added k seen_last seen_t)
-sum_of_two k last t seen_last seen_t n d e h = rw (← e, ← d, h) refl
+sum_of_two : (k : FieldValue) (last t seen_last seen_t : Term) (n : ℕ) → last ≡ seen_last → t ≡ seen_t → n ≡ plus k last.coefficient t.coefficient → term last.word n ≡ added k seen_t seen_last
+sum_of_two k last t seen_last seen_t n d e h = rw (← e, ← d, h) (ap (term last.word) (plus_comm k last.coefficient t.coefficient))
 
 pub loop-term-init : goal.loop-term-init
 loop-term-init c = rw c.new-out.ensures.items (gathering_start c.args.field c.args.terms.now c.in-Some.first.now c.in-Some.rest.now c.in-Some.ensures.cases.0 c.requires.elements)
