@@ -8,7 +8,6 @@ use Rattle.nichols_tensor.specs.Combination.{AllAmong, Combination, single}
 use Rattle.nichols_tensor.specs.Positions.{word_at}
 use Rattle.nichols_tensor.proofs.Over.{letter_over, word_over_front}
 use Rattle.nichols_tensor.proofs.Pushed.{pushed_length}
-use Rattle.nichols_braid.specs.declared.TheConstants.{MOST_DEGREES}
 use Rattle.nichols_braid.specs.Braid.{BraidValue, IsBraid, IsLetter}
 use Rattle.nichols_braid.specs.Kernel.{is_killed}
 use Rattle.nichols_braid.specs.Least.{is_least, normal_form}
@@ -17,15 +16,13 @@ use Rattle.nichols_braid.specs.Products.{products}
 use Rattle.nichols_braid.proofs.FirstDegree.{empty_word_is_least}
 use Rattle.nichols_braid.proofs.ProductListLaws.{products_are_of_words}
 use Rattle.nichols_echelon.specs.Cells.{Cell}
-use Rattle.nichols_value.specs.declared.key.BlockKey.{BlockKey}
 use Rattle.nichols_value.specs.Block.{block_basis, left_lower_basis, lower_basis}
 use Rattle.nichols_value.specs.Kept.{AreCellsOf}
 use Rattle.nichols_value.specs.Rule.{IsRuleOf, PlainRule, below_in, left_in, right_in, rule_of}
 use Rattle.nichols_value.proofs.Blocks.{lower_basis_is}
 use Rattle.nichols_value.proofs.LeftBlocks.{left_lower_is_lower}
-use Rattle.nichols_value.proofs.RuleEntries.{basis_is, below_count, below_is, key_is, lean_of_whole, left_form, left_size, right_form}
+use Rattle.nichols_value.proofs.RuleEntries.{basis_is, below_is, lean_of_whole, left_form, left_size, right_form, right_size}
 use Rattle.nichols_value.proofs.FormCells.{none_among}
-use Rattle.nichols_block.specs.Lower.{IsUpperBlock}
 use Rattle.nichols_block.specs.Pass.{IsOfBlock}
 use Rattle.nichols_block.specs.Words.{but_last}
 use Rattle.nichols_block.proofs.ListedWords.{IsListedWord, but_last-push}
@@ -56,7 +53,7 @@ pub record HasParts (n : ℕ) (w : List ℕ) : Type 0 where
   pub back_is : drop 1 w ≡ inner ++ last ∷ []
   pub front_is : but_last w ≡ first ∷ inner
 
-parts_of : (n : ℕ) (w : List ℕ) → length w ≡ suc (suc n) → HasParts n w
+pub parts_of : (n : ℕ) (w : List ℕ) → length w ≡ suc (suc n) → HasParts n w
 parts_of n w size =
     let h : HasEnds n w = has_ends n w size in record {
       first = h.first;
@@ -80,6 +77,18 @@ long_by braid is zero some v size other = absurd (omega arith)
 long_by braid is (suc zero) some [] size other = absurd (let c : true ≡ false = sym (empty_word_is_least braid is.field) ∙ other in cc)
 long_by braid is (suc zero) some (x ∷ v) size other = absurd (omega arith)
 long_by braid is (suc (suc n)) some v size other = record { n = n; is = refl }
+
+pub long_back : (braid : BraidValue) → IsBraid braid → (m : ℕ) → 1 ≤ m → (w : List ℕ) → length w ≡ m → is_least is_killed braid (drop 1 w) ≡ false → 2 ≤ length w
+long_back braid is m some w size other = let l : IsLong m = long_by braid is m some (drop 1 w) (longer w size) other in omega (arith, l.is, size)
+  where
+    longer : (v : List ℕ) → length v ≡ m → suc (length (drop 1 v)) ≡ m
+    longer [] e = absurd (omega arith)
+    longer (x ∷ v) e = e
+
+pub long_front : (braid : BraidValue) → IsBraid braid → (m : ℕ) → 1 ≤ m → (w : List ℕ) → length w ≡ m → is_least is_killed braid (but_last w) ≡ false → 2 ≤ length w
+long_front braid is m some w size other =
+    let shorter : length (take (length w - 1) w) ≡ length w - 1 = length-take-le (length w - 1) w (omega arith) in
+    let l : IsLong m = long_by braid is m some (but_last w) (omega (arith, size, shorter, some)) other in omega (arith, l.is, size)
 
 one_less : (n : ℕ) → suc n ≡ suc (suc n) - 1
 one_less n = omega arith
@@ -144,20 +153,9 @@ left_none braid m g c w l none = record {
   form = sym (none_among (normal_form is_killed braid (m - 1) (single (drop 1 w))) (subst (AllAmong (normal_form is_killed braid (m - 1) (single (drop 1 w)))) (l.words ∙ none) l.among));
 }
 
-pub left_most : (braid : BraidValue) (m : ℕ) (g : List ℕ) (c b : ℕ) (w : List ℕ) (r : PlainRule) → IsLeftRead braid m g c w → r ≡ rule_of braid (m - 1) (product_before braid c g) → b ≡ slice_index w (length w - 1) → b ≤ length r.below
-left_most braid m g c b w r l e at =
-    let count : length r.below ≡ braid.letters = below_count braid (m - 1) (product_before braid c g) r (lean_of_whole braid (m - 1) (product_before braid c g) r e) in
-    let last : b ≤ braid.letters = subst (λ d. d ≤ braid.letters) (sym at) l.last.1 in omega arith
-
 words_behind : (braid : BraidValue) (m : ℕ) (g : List ℕ) (c b : ℕ) (w : List ℕ) (r : PlainRule) → IsLeftRead braid m g c w → r ≡ rule_of braid (m - 1) (product_before braid c g) → b ≡ slice_index w (length w - 1) →
     below_in r b ≡ lower_basis braid (m - 1) (product_before braid c g) b
 words_behind braid m g c b w r l e at = below_is braid (m - 1) (product_before braid c g) r (lean_of_whole braid (m - 1) (product_before braid c g) r e) b (subst (IsLetter braid) (sym at) l.last)
-
-pub left_there : (braid : BraidValue) (m : ℕ) (g : List ℕ) (c b : ℕ) (w inner : List ℕ) (r : PlainRule) (ws : List (List ℕ)) → IsLeftRead braid m g c w → r ≡ rule_of braid (m - 1) (product_before braid c g) → b ≡ slice_index w (length w - 1) →
-    inner ≡ take (length w - 2) (drop 1 w) → ws ≡ below_in r b → Contains ws inner
-left_there braid m g c b w inner r ws l e at inner_is ws_is =
-    subst (λ vs. Contains vs inner) (sym (ws_is ∙ words_behind braid m g c b w r l e at))
-    (subst (λ d. Contains (lower_basis braid (m - 1) (product_before braid c g) d) inner) (sym at) (subst (Contains (lower_basis braid (m - 1) (product_before braid c g) (slice_index w (length w - 1)))) (sym inner_is) l.there))
 
 pub left_cells : (braid : BraidValue) (m : ℕ) (g : List ℕ) (c b : ℕ) (w inner : List ℕ) (r : PlainRule) (ws : List (List ℕ)) (k : ℕ) (cells : List Cell) → IsLeftRead braid m g c w → r ≡ rule_of braid (m - 1) (product_before braid c g) → b ≡ slice_index w (length w - 1) →
     inner ≡ take (length w - 2) (drop 1 w) → ws ≡ below_in r b → k < length ws → word_at ws k ≡ inner → AreCellsOf r.basis (get_or (right_in r b) k []) cells →
@@ -170,6 +168,23 @@ left_cells braid m g c b w inner r ws k cells l e at inner_is ws_is less here ar
     ∙ ap (λ v. normal_form is_killed braid (m - 1) (single v)) (ap (λ v. v ++ b ∷ []) (ap (λ vs. word_at vs k) (sym words) ∙ here ∙ inner_is) ∙ ap (λ d. take (length w - 2) (drop 1 w) ++ d ∷ []) at ∙ l.whole) in
     subst (λ (f : Combination). AreCellsOf (left_lower_basis braid m g (slice_index w 0)) f cells) form
     (subst (λ vs. AreCellsOf vs (get_or (right_in r b) k []) cells) (basis_is braid (m - 1) (product_before braid c g) r lean ∙ sym (l.words ∙ l.basis)) are)
+
+-- the row at its place without both end letters
+pub left_row_there : (braid : BraidValue) (m : ℕ) (g : List ℕ) (c b : ℕ) (w : List ℕ) (r : PlainRule) (k : ℕ) → IsLeftRead braid m g c w → r ≡ rule_of braid (m - 1) (product_before braid c g) → b ≡ slice_index w (length w - 1) →
+    k < length (lower_basis braid (m - 1) (product_before braid c g) (slice_index w (length w - 1))) → k < length (right_in r b)
+left_row_there braid m g c b w r k l e at less =
+    subst (λ n. k < n)
+    (ap (λ d. length (lower_basis braid (m - 1) (product_before braid c g) d)) (sym at)
+    ∙ sym (right_size braid (m - 1) (product_before braid c g) r (lean_of_whole braid (m - 1) (product_before braid c g) r e) b (subst (IsLetter braid) (sym at) l.last)))
+    less
+
+pub left_cells_at : (braid : BraidValue) (m : ℕ) (g : List ℕ) (c b : ℕ) (w : List ℕ) (r : PlainRule) (k : ℕ) (cells : List Cell) → IsLeftRead braid m g c w → r ≡ rule_of braid (m - 1) (product_before braid c g) → b ≡ slice_index w (length w - 1) →
+    k < length (lower_basis braid (m - 1) (product_before braid c g) (slice_index w (length w - 1))) →
+    word_at (lower_basis braid (m - 1) (product_before braid c g) (slice_index w (length w - 1))) k ≡ take (length w - 2) (drop 1 w) → AreCellsOf r.basis (get_or (right_in r b) k []) cells →
+    AreCellsOf (left_lower_basis braid m g (slice_index w 0)) (normal_form is_killed braid (m - 1) (single (drop 1 w))) cells
+left_cells_at braid m g c b w r k cells l e at less here are =
+    let words : below_in r b ≡ lower_basis braid (m - 1) (product_before braid c g) (slice_index w (length w - 1)) = words_behind braid m g c b w r l e at ∙ ap (lower_basis braid (m - 1) (product_before braid c g)) at in
+    left_cells braid m g c b w (take (length w - 2) (drop 1 w)) r (below_in r b) k cells l e at refl refl (subst (λ vs. k < length vs) (sym words) less) (ap (λ vs. word_at vs k) words ∙ here) are
 
 -- ---- without the last letter
 
@@ -231,47 +246,22 @@ right_none braid m g w l none = record {
   form = sym (none_among (normal_form is_killed braid (m - 1) (single (but_last w))) (subst (AllAmong (normal_form is_killed braid (m - 1) (single (but_last w)))) none l.among));
 }
 
--- its rule is that of an upper block
-pub right_block : (braid : BraidValue) (m : ℕ) (g : List ℕ) (w : List ℕ) (r : PlainRule) (key : BlockKey) → IsRightRead braid m g w → m ≤ MOST_DEGREES → r ≡ rule_of braid (m - 1) (product_before braid (slice_index w (length w - 1)) g) → key ≡ r.key → IsUpperBlock braid key
-right_block braid m g w r key l most e key_is_rule =
+-- the row at its place without both end letters
+pub right_row_there : (braid : BraidValue) (m : ℕ) (g w : List ℕ) (r : PlainRule) (a k : ℕ) → IsRightRead braid m g w → r ≡ rule_of braid (m - 1) (product_before braid (slice_index w (length w - 1)) g) → a ≡ slice_index w 0 →
+    k < length (left_lower_basis braid (m - 1) (product_before braid (slice_index w (length w - 1)) g) (slice_index w 0)) → k < length (left_in r a)
+right_row_there braid m g w r a k l e at less =
     let below : List ℕ = product_before braid (slice_index w (length w - 1)) g in
-    let whole : key ≡ record { degree = m - 1; product = below } = key_is_rule ∙ key_is braid (m - 1) below r (lean_of_whole braid (m - 1) below r e) in
-    subst (IsUpperBlock braid) (sym whole) (record { some = omega (arith, l.two); most = omega (arith, most); there = l.block })
+    subst (λ n. k < n) (ap (λ d. length (left_lower_basis braid (m - 1) below d)) (sym at) ∙ sym (left_size braid (m - 1) below r e a (subst (IsLetter braid) (sym at) l.first))) less
 
-words_before : (braid : BraidValue) (m : ℕ) (g : List ℕ) (w : List ℕ) (r : PlainRule) (a c : ℕ) (key : BlockKey) → IsRightRead braid m g w → r ≡ rule_of braid (m - 1) (product_before braid (slice_index w (length w - 1)) g) → key ≡ r.key → a ≡ slice_index w 0 → IsLetter braid c →
-    left_lower_basis braid key.degree key.product a ≡ lower_basis braid key.degree key.product c → below_in r c ≡ left_lower_basis braid (m - 1) (product_before braid (slice_index w (length w - 1)) g) a
-words_before braid m g w r a c key l e key_is_rule at lc same =
+pub right_cells_at : (braid : BraidValue) (m : ℕ) (g w : List ℕ) (r : PlainRule) (a k : ℕ) (cells : List Cell) → IsRightRead braid m g w → r ≡ rule_of braid (m - 1) (product_before braid (slice_index w (length w - 1)) g) → a ≡ slice_index w 0 →
+    k < length (left_lower_basis braid (m - 1) (product_before braid (slice_index w (length w - 1)) g) (slice_index w 0)) →
+    word_at (left_lower_basis braid (m - 1) (product_before braid (slice_index w (length w - 1)) g) (slice_index w 0)) k ≡ take (length w - 2) (drop 1 w) → AreCellsOf r.basis (get_or (left_in r a) k []) cells →
+    AreCellsOf (lower_basis braid m g (slice_index w (length w - 1))) (normal_form is_killed braid (m - 1) (single (but_last w))) cells
+right_cells_at braid m g w r a k cells l e at less here are =
     let below : List ℕ = product_before braid (slice_index w (length w - 1)) g in
-    let lean : IsRuleOf braid (m - 1) below r = lean_of_whole braid (m - 1) below r e in
-    let whole : key ≡ record { degree = m - 1; product = below } = key_is_rule ∙ key_is braid (m - 1) below r lean in
-    below_is braid (m - 1) below r lean c lc ∙ sym (subst (λ (x : BlockKey). left_lower_basis braid x.degree x.product a ≡ lower_basis braid x.degree x.product c) whole same)
-
-pub right_most : (braid : BraidValue) (m : ℕ) (g : List ℕ) (w : List ℕ) (r : PlainRule) (c : ℕ) → r ≡ rule_of braid (m - 1) (product_before braid (slice_index w (length w - 1)) g) → IsLetter braid c → c ≤ length r.below
-right_most braid m g w r c e lc =
-    let below : List ℕ = product_before braid (slice_index w (length w - 1)) g in
-    let count : length r.below ≡ braid.letters = below_count braid (m - 1) below r (lean_of_whole braid (m - 1) below r e) in omega (arith, count, lc.1)
-
-pub right_there : (braid : BraidValue) (m : ℕ) (g : List ℕ) (w inner : List ℕ) (r : PlainRule) (a c : ℕ) (key : BlockKey) (ws : List (List ℕ)) → IsRightRead braid m g w → r ≡ rule_of braid (m - 1) (product_before braid (slice_index w (length w - 1)) g) → key ≡ r.key →
-    a ≡ slice_index w 0 → IsLetter braid c → left_lower_basis braid key.degree key.product a ≡ lower_basis braid key.degree key.product c → inner ≡ take (length w - 2) (drop 1 w) → ws ≡ below_in r c → Contains ws inner
-right_there braid m g w inner r a c key ws l e key_is_rule at lc same inner_is ws_is =
-    subst (λ vs. Contains vs inner) (sym (ws_is ∙ words_before braid m g w r a c key l e key_is_rule at lc same))
-    (subst (λ d. Contains (left_lower_basis braid (m - 1) (product_before braid (slice_index w (length w - 1)) g) d) inner) (sym at)
-    (subst (Contains (left_lower_basis braid (m - 1) (product_before braid (slice_index w (length w - 1)) g) (slice_index w 0))) (sym inner_is) l.there))
-
-pub right_place : (braid : BraidValue) (m : ℕ) (g : List ℕ) (w : List ℕ) (r : PlainRule) (a c : ℕ) (key : BlockKey) (ws : List (List ℕ)) (k : ℕ) → IsRightRead braid m g w → r ≡ rule_of braid (m - 1) (product_before braid (slice_index w (length w - 1)) g) → key ≡ r.key →
-    a ≡ slice_index w 0 → IsLetter braid c → left_lower_basis braid key.degree key.product a ≡ lower_basis braid key.degree key.product c → ws ≡ below_in r c → k < length ws → k < length (left_in r a)
-right_place braid m g w r a c key ws k l e key_is_rule at lc same ws_is less =
-    subst (λ n. k < n)
-    (ap length (ws_is ∙ words_before braid m g w r a c key l e key_is_rule at lc same) ∙ sym (left_size braid (m - 1) (product_before braid (slice_index w (length w - 1)) g) r e a (subst (IsLetter braid) (sym at) l.first))) less
-
-pub right_cells : (braid : BraidValue) (m : ℕ) (g : List ℕ) (w inner : List ℕ) (r : PlainRule) (a c : ℕ) (key : BlockKey) (ws : List (List ℕ)) (k : ℕ) (cells : List Cell) → IsRightRead braid m g w → r ≡ rule_of braid (m - 1) (product_before braid (slice_index w (length w - 1)) g) → key ≡ r.key →
-    a ≡ slice_index w 0 → IsLetter braid c → left_lower_basis braid key.degree key.product a ≡ lower_basis braid key.degree key.product c → inner ≡ take (length w - 2) (drop 1 w) → ws ≡ below_in r c → k < length ws → word_at ws k ≡ inner →
-    AreCellsOf r.basis (get_or (left_in r a) k []) cells → AreCellsOf (lower_basis braid m g (slice_index w (length w - 1))) (normal_form is_killed braid (m - 1) (single (but_last w))) cells
-right_cells braid m g w inner r a c key ws k cells l e key_is_rule at lc same inner_is ws_is less here are =
-    let below : List ℕ = product_before braid (slice_index w (length w - 1)) g in
-    let words : ws ≡ left_lower_basis braid (m - 1) below a = ws_is ∙ words_before braid m g w r a c key l e key_is_rule at lc same in
+    let words : left_lower_basis braid (m - 1) below (slice_index w 0) ≡ left_lower_basis braid (m - 1) below a = ap (left_lower_basis braid (m - 1) below) (sym at) in
     let form : get_or (left_in r a) k [] ≡ normal_form is_killed braid (m - 1) (single (but_last w)) =
     left_form braid (m - 1) below r e a (subst (IsLetter braid) (sym at) l.first) k (subst (λ vs. k < length vs) words less)
-    ∙ ap (λ v. normal_form is_killed braid (m - 1) (single v)) (ap (λ v. a ∷ v) (ap (λ vs. word_at vs k) (sym words) ∙ here ∙ inner_is) ∙ ap (λ d. d ∷ take (length w - 2) (drop 1 w)) at ∙ l.whole) in
+    ∙ ap (λ v. normal_form is_killed braid (m - 1) (single v)) (ap (λ v. a ∷ v) (ap (λ vs. word_at vs k) (sym words) ∙ here) ∙ ap (λ d. d ∷ take (length w - 2) (drop 1 w)) at ∙ l.whole) in
     subst (λ (f : Combination). AreCellsOf (lower_basis braid m g (slice_index w (length w - 1))) f cells) form
     (subst (λ vs. AreCellsOf vs (get_or (left_in r a) k []) cells) (basis_is braid (m - 1) below r (lean_of_whole braid (m - 1) below r e) ∙ sym l.basis) are)

@@ -3,23 +3,27 @@ use Rattle.std.proofs.Common.{◌≡◌, ℕ, zero, suc, ◌+◌, ◌-◌, ◌^�
 use Rattle.std.specs.Prelude.{slice_index}
 use Rattle.std.specs.List.{AllByRecursion}
 use Rattle.std.proofs.lemmas.Bool.{cases_lt}
-use Rattle.std.proofs.lemmas.List.{get_or_append_left, get_or_read, length-map}
+use Rattle.std.proofs.lemmas.List.{get_or_append_left, get_or_default, get_or_read, length-map}
 use Rattle.std.proofs.Math.Seq.{get_or-append_seam}
 use Rattle.std.proofs.lemmas.List.Elements.{All-from_recursion}
 use Rattle.nichols_braid.specs.Braid.{BraidValue, IsBraid}
 use Rattle.nichols_braid.specs.Forms.{derived_form}
 use Rattle.nichols_braid.specs.Kernel.{is_killed}
 use Rattle.nichols_echelon.specs.Cells.{AllBelow, Cell}
+use Rattle.nichols_echelon.specs.Parts.{AreParts, cells_behind, joined_rows, part_at}
+use Rattle.nichols_echelon.specs.Parts.{joined_row as row_in_parts}
 use Rattle.nichols_echelon.specs.Rows.{RowsValue}
 use Rattle.nichols_echelon.specs.Split.{IsSplit}
 use Rattle.nichols_echelon.specs.declared.rows.Place.{Place}
 use Rattle.nichols_rows.specs.CombinationAt.{combination_at}
+use Rattle.nichols_echelon.proofs.JoinedRows.{joined_at, joined_count}
+use Rattle.nichols_echelon.proofs.JoinedRows.{joined_first as parts_first, joined_more as parts_more}
 use Rattle.nichols_value.specs.Block.{lower_basis}
-use Rattle.nichols_block.specs.NewRows.{AreNewRows, AreOffsets, columns_to, joined_row, cells_behind}
+use Rattle.nichols_block.specs.NewRows.{AreNewRows, AreOffsets, columns_to, joined_row}
 use Rattle.nichols_block.specs.Places.{ArePlacesOf}
 use Rattle.nichols_block.specs.Rows.{AreNewDerivatives, AreRowsOf, rows_by}
 use Rattle.nichols_block.specs.Words.{block_new_words}
-use Rattle.nichols_block.proofs.NewRowShapes.{AreSplittable, columns_more, joined_more, new_rows_shape}
+use Rattle.nichols_block.proofs.NewRowShapes.{AreSplittable, columns_more, joined_more, joined_none, new_rows_shape}
 use Rattle.nichols_block.proofs.PlacesSay.{places_say}
 use Rattle.nichols_block.proofs.RowSums.{below_wider}
 
@@ -86,14 +90,41 @@ row_fits braid m g offsets o lists a k own cells less within at h =
     below_wider (length (lower_basis braid m g (a + 1))) (2 ^ 32 - slice_index offsets a) (omega (arith, o.each a less, o.short, columns_within braid m g a braid.letters less)) cells
     (subst (AllBelow (length (lower_basis braid m g (a + 1)))) (sym at) (All-from_recursion (AllBelow (length (lower_basis braid m g (a + 1)))) own.rows h.below k [] within))
 
--- ---- a row, letter by letter
+-- ---- rows in parts
 
-pub joined_next : (braid : BraidValue) (m : ℕ) (g : List ℕ) (offsets : List ℕ) → AreOffsets braid m g offsets → (lists : List RowsValue) (a k : ℕ) (own : RowsValue) (cells before after : List Cell) → a < braid.letters → cells ≡ get_or own.rows k [] →
-    IsByLetter braid m g lists a own → before ≡ joined_row braid m g lists k a → after ≡ before ++ cells_behind (slice_index offsets a) cells → after ≡ joined_row braid m g lists k (a + 1)
-joined_next braid m g offsets o lists a k own cells before after less at h begun pushed =
-    pushed ∙ ap₂ (λ xs n. xs ++ cells_behind n cells) begun (o.each a less)
-    ∙ ap (λ ys. joined_row braid m g lists k a ++ cells_behind (columns_to braid m g a) ys) (at ∙ ap (λ (r : RowsValue). get_or r.rows k []) h.there)
-    ∙ subst (λ b. joined_row braid m g lists k a ++ cells_behind (columns_to braid m g a) (get_or (rows_by lists b).rows k []) ≡ joined_row braid m g lists k b) (sym (add-one a)) (sym (joined_more braid m g lists k a))
+-- a row in parts, with the offsets of the letters
+parts_joined : (braid : BraidValue) (m : ℕ) (g : List ℕ) (offsets : List ℕ) → AreOffsets braid m g offsets → (lists : List RowsValue) (k a : ℕ) → a ≤ braid.letters → row_in_parts lists offsets k a ≡ joined_row braid m g lists k a
+parts_joined braid m g offsets o lists k zero most = parts_first lists offsets k ∙ sym (joined_none braid m g lists k)
+parts_joined braid m g offsets o lists k (suc a) most =
+    let index : a ≡ suc a - 1 = omega arith in
+    parts_more lists offsets k a
+    ∙ ap₂ (λ (xs : List Cell) (n : ℕ). xs ++ cells_behind n (get_or (part_at lists a).rows k [])) (parts_joined braid m g offsets o lists k a (omega (arith, most))) (o.each a (omega (arith, most)))
+    ∙ ap (λ (i : ℕ). joined_row braid m g lists k a ++ cells_behind (columns_to braid m g a) (get_or (part_at lists i).rows k [])) index
+    ∙ sym (joined_more braid m g lists k a)
+
+-- the rows of the new words are in parts
+pub new_rows_joined : (braid : BraidValue) (m : ℕ) (g : List ℕ) (offsets : List ℕ) → AreOffsets braid m g offsets → (lists : List RowsValue) → AreNewDerivatives braid m g lists → (count : ℕ) → count ≡ length (block_new_words braid m g) →
+    AreNewRows braid m g lists (joined_rows lists offsets count)
+new_rows_joined braid m g offsets o lists h count all = record {
+  count = joined_count lists offsets count ∙ all;
+  each = λ k less.
+      joined_at lists offsets count k (let size : length (joined_rows lists offsets count) ≡ count = joined_count lists offsets count in omega (arith, less, size))
+      ∙ ap (row_in_parts lists offsets k) h.letters ∙ parts_joined braid m g offsets o lists k braid.letters (omega arith);
+}
+
+pub new_rows_parts : (braid : BraidValue) (m : ℕ) (g : List ℕ) (offsets : List ℕ) → AreOffsets braid m g offsets → (lists : List RowsValue) → AreNewDerivatives braid m g lists → (count : ℕ) → count ≡ length (block_new_words braid m g) →
+    AreParts lists offsets count
+new_rows_parts braid m g offsets o lists h count all k less = record {
+  as_many = o.letters ∙ sym h.letters;
+  inside = λ a there. within a there;
+  fit = λ a there. row_fits braid m g offsets o lists a k (part_at lists a) (get_or (part_at lists a).rows k []) (omega (arith, there, h.letters)) (within a there) refl (own a there);
+}
+  where
+    own : (a : ℕ) → a < length lists → IsByLetter braid m g lists a (part_at lists a)
+    own a there = by_letter_at braid m g lists h a (part_at lists a) there (get_or_default lists a (record { rows = []; begun = [] }) (part_at lists a) there)
+
+    within : (a : ℕ) → a < length lists → k < length (part_at lists a).rows
+    within a there = let size : length (part_at lists a).rows ≡ length (block_new_words braid m g) = (own a there).count in omega (arith, size, less, all)
 
 -- ---- the split
 

@@ -1,15 +1,16 @@
 -- Words that were listed in order, each taken once, with what is known of it.
-use Rattle.std.proofs.Common.{◌≡◌, ℕ, zero, suc, ◌≤◌, Bool, true, false, cond, List, [], ◌∷◌, ◌++◌, map, length, take, drop, refl, sym, ◌∙◌, ap, ap₂, subst, arith, append_assoc, ◌⊎◌, inl, inr}
-use Rattle.std.specs.Prelude.{◌&&◌}
+use Rattle.std.proofs.Common.{◌≡◌, ℕ, zero, suc, ◌+◌, ◌<◌, ◌≤◌, Bool, true, false, cond, List, [], ◌∷◌, ◌++◌, map, length, take, drop, refl, sym, ◌∙◌, ap, ap₂, subst, arith, append_assoc, ◌⊎◌, inl, inr, Option, None, Some, MatchOption, get_or}
+use Rattle.std.specs.Prelude.{◌&&◌, is_some}
+use Rattle.std.specs.Option.{option_or}
 use Rattle.std.specs.List.{flat_map, filter, AllByRecursion, Contains}
 use Rattle.std.specs.List.Sorted.{IsPermutation, IsSortedByKey}
 use Rattle.std.specs.Ordering.{is_eq}
 use Rattle.std.specs.declared.cmp.Ordering.{Ordering}
 use Rattle.std.specs.declared.cmp.Ordering.TheVariants.{Less, Equal, Greater}
 use Rattle.std.proofs.lemmas.Grind.{flat_map-append}
-use Rattle.std.proofs.lemmas.List.{append-nil, take_all}
+use Rattle.std.proofs.lemmas.List.{append-nil, append_cancel_left, take_all}
 use Rattle.std.proofs.lemmas.List.Sorted.{Contains-permutation, IsPermutation-sym}
-use Rattle.std.proofs.lemmas.Bool.{or_cases, or_left, or_right}
+use Rattle.nichols_tensor.specs.Positions.{word_at}
 use Rattle.nichols_tensor.specs.Words.{up_to}
 use Rattle.nichols_tensor.specs.WordOrder.{word_cmp, IsRising}
 use Rattle.nichols_tensor.proofs.Entries.{contains_none, contains_first, contains_later, contains_cases, in_map, from_map, in_flat_map, from_flat_map}
@@ -17,14 +18,14 @@ use Rattle.nichols_tensor.proofs.Letters.{in_up_to, from_up_to}
 use Rattle.nichols_tensor.proofs.Order.{same_word}
 use Rattle.nichols_tensor.proofs.Ordered.{before_all}
 use Rattle.nichols_tensor.proofs.Over.{all_at}
-use Rattle.nichols_tensor.proofs.Rising.{rising_unique}
+use Rattle.nichols_tensor.proofs.Rising.{position_of, rising_unique, word_at_is_in}
 use Rattle.nichols_tensor.proofs.Tests.{same_answer, all_of_entries}
 use Rattle.nichols_braid.specs.Braid.{BraidValue, IsBraid}
 use Rattle.nichols_braid.specs.Kernel.{is_killed}
 use Rattle.nichols_braid.specs.Least.{is_least}
 use Rattle.nichols_value.specs.Block.{left_lower_basis, lower_basis}
 use Rattle.nichols_block.specs.declared.words.Listed.{Listed}
-use Rattle.nichols_block.specs.Words.{AreListed, but_last, left_entries, left_entry, listed_words, right_entries, right_entry, block_new_words}
+use Rattle.nichols_block.specs.Words.{AreListed, HasBackPlace, HasFrontPlace, IsBackPlace, IsFrontPlace, but_last, entries_from, left_entries, left_entry, listed_words, right_entries, right_entry, block_new_words}
 use Rattle.nichols_block.specs.Gathered.{gathered_all, gathered_from, together, word_in}
 use Rattle.nichols_block.proofs.ListedWords.{IsListedWord, from_left_word, from_listed, from_right_word, in_listed, left_word, listed_words_rise, right_word, but_last-push, new_of_listed}
 use Rattle.std.proofs.lemmas.List.Elements.{Contains-append_left, Contains-append_right, Contains-append_cases}
@@ -40,80 +41,173 @@ pub right_entries_start : (braid : BraidValue) (m : ℕ) (g : List ℕ) → righ
 unfolding right_entries
 right_entries_start braid m g = refl
 
-pub right_entries_more : (braid : BraidValue) (m : ℕ) (g : List ℕ) (n b : ℕ) (ws : List (List ℕ)) (old new : List Listed) → b ≡ suc n → ws ≡ lower_basis braid m g b → old ≡ right_entries braid m g n → new ≡ old ++ map (right_entry b) ws →
+pub right_entries_more : (braid : BraidValue) (m : ℕ) (g : List ℕ) (n b : ℕ) (ws : List (List ℕ)) (old new : List Listed) → b ≡ suc n → ws ≡ lower_basis braid m g b → old ≡ right_entries braid m g n → new ≡ old ++ entries_from (right_entry b) 0 ws →
     new ≡ right_entries braid m g b
 unfolding right_entries
 right_entries_more braid m g n b ws old new e same before put =
-    put ∙ ap₂ (λ l us. l ++ map (right_entry b) us) before same
-    ∙ ap (λ c. right_entries braid m g n ++ map (right_entry c) (lower_basis braid m g c)) e
-    ∙ sym (entries_more (λ c. map (right_entry c) (lower_basis braid m g c)) n) ∙ ap (right_entries braid m g) (sym e)
+    put ∙ ap₂ (λ l us. l ++ entries_from (right_entry b) 0 us) before same
+    ∙ ap (λ c. right_entries braid m g n ++ entries_from (right_entry c) 0 (lower_basis braid m g c)) e
+    ∙ sym (entries_more (λ c. entries_from (right_entry c) 0 (lower_basis braid m g c)) n) ∙ ap (right_entries braid m g) (sym e)
 
 pub left_entries_start : (braid : BraidValue) (m : ℕ) (g : List ℕ) (old : List Listed) → old ≡ old ++ left_entries braid m g 0
 unfolding left_entries
 left_entries_start braid m g old = sym (append-nil old)
 
 pub left_entries_more : (braid : BraidValue) (m : ℕ) (g : List ℕ) (n a : ℕ) (ws : List (List ℕ)) (first old new : List Listed) → a ≡ suc n → ws ≡ left_lower_basis braid m g a → old ≡ first ++ left_entries braid m g n →
-    new ≡ old ++ map (left_entry a) ws → new ≡ first ++ left_entries braid m g a
+    new ≡ old ++ entries_from (left_entry a) 0 ws → new ≡ first ++ left_entries braid m g a
 unfolding left_entries
 left_entries_more braid m g n a ws first old new e same before put =
-    put ∙ ap₂ (λ l us. l ++ map (left_entry a) us) before same ∙ append_assoc first (left_entries braid m g n) (map (left_entry a) (left_lower_basis braid m g a))
+    put ∙ ap₂ (λ l us. l ++ entries_from (left_entry a) 0 us) before same ∙ append_assoc first (left_entries braid m g n) (entries_from (left_entry a) 0 (left_lower_basis braid m g a))
     ∙ ap (λ l. first ++ l)
-    (ap (λ c. left_entries braid m g n ++ map (left_entry c) (left_lower_basis braid m g c)) e
-    ∙ sym (entries_more (λ c. map (left_entry c) (left_lower_basis braid m g c)) n) ∙ ap (left_entries braid m g) (sym e))
+    (ap (λ c. left_entries braid m g n ++ entries_from (left_entry c) 0 (left_lower_basis braid m g c)) e
+    ∙ sym (entries_more (λ c. entries_from (left_entry c) 0 (left_lower_basis braid m g c)) n) ∙ ap (left_entries braid m g) (sym e))
+
+-- ---- entries by their places
+
+from_entries : (f : ℕ → List ℕ → Listed) (k : ℕ) (ws : List (List ℕ)) (l : Listed) → Contains (entries_from f k ws) l → (i : ℕ) × (i < length ws) × (l ≡ f (k + i) (word_at ws i))
+unfolding entries_from
+from_entries f k [] l i = absurd (contains_none l i)
+from_entries f k (w ∷ ws) l i =
+    elim (contains_cases (f k w) (entries_from f (suc k) ws) l i) [
+      | inl same ↦ (0, omega arith, same ∙ ap (λ n. f n w) (let e : k ≡ k + 0 = omega arith in e))
+      | inr later ↦ let (p, less, e) = from_entries f (suc k) ws l later in (suc p, omega (arith, less), e ∙ ap (λ n. f n (word_at ws p)) (let q : suc k + p ≡ k + suc p = omega arith in q))
+    ]
+
+in_entries : (f : ℕ → List ℕ → Listed) (k : ℕ) (ws : List (List ℕ)) (i : ℕ) → i < length ws → Contains (entries_from f k ws) (f (k + i) (word_at ws i))
+unfolding entries_from
+in_entries f k [] i less = absurd (omega arith)
+in_entries f k (w ∷ ws) zero less = subst (λ n. Contains (f k w ∷ entries_from f (suc k) ws) (f n w)) (let e : k ≡ k + 0 = omega arith in e) (contains_first (f k w) (entries_from f (suc k) ws))
+in_entries f k (w ∷ ws) (suc i) less =
+    subst (λ n. Contains (f k w ∷ entries_from f (suc k) ws) (f n (word_at ws i))) (let e : suc k + i ≡ k + suc i = omega arith in e)
+    (contains_later (f k w) (entries_from f (suc k) ws) (f (suc k + i) (word_at ws i)) (in_entries f (suc k) ws i (omega (arith, less))))
+
+-- one entry more
+pub entries_more_by_one : (f : ℕ → List ℕ → Listed) (k : ℕ) (ws : List (List ℕ)) (i : ℕ) (w : List ℕ) → i < length ws → w ≡ get_or ws i w → entries_from f k (take (suc i) ws) ≡ entries_from f k (take i ws) ++ f (k + i) w ∷ []
+unfolding entries_from
+entries_more_by_one f k [] i w less e = absurd (omega arith)
+entries_more_by_one f k (u ∷ ws) zero w less e = ap₂ (λ n v. f n v ∷ []) (let q : k ≡ k + 0 = omega arith in q) (sym e)
+entries_more_by_one f k (u ∷ ws) (suc i) w less e =
+    ap (λ l. f k u ∷ l) (entries_more_by_one f (suc k) ws i w (omega (arith, less)) e ∙ ap (λ n. entries_from f (suc k) (take i ws) ++ f n w ∷ []) (let q : suc k + i ≡ k + suc i = omega arith in q))
+
+-- entries that are put behind others, one by one
+pub put_start : (f : ℕ → List ℕ → Listed) (first now : List Listed) → now ≡ first → now ≡ first ++ entries_from f 0 []
+unfolding entries_from
+put_start f first now e = e ∙ sym (append-nil first)
+
+pub put_more : (f : ℕ → List ℕ → Listed) (ws : List (List ℕ)) (i : ℕ) (w : List ℕ) (first old new : List Listed) → i < length ws → w ≡ get_or ws i w → old ≡ first ++ entries_from f 0 (take i ws) → new ≡ old ++ f i w ∷ [] → new ≡ first ++ entries_from f 0 (take (i + 1) ws)
+put_more f ws i w first old new less at before put =
+    put ∙ ap (λ l. l ++ f i w ∷ []) before ∙ append_assoc first (entries_from f 0 (take i ws)) (f i w ∷ [])
+    ∙ ap (λ l. first ++ l)
+    (ap (λ n. entries_from f 0 (take i ws) ++ f n w ∷ []) (let q : i ≡ 0 + i = omega arith in q) ∙ sym (entries_more_by_one f 0 ws i w less at)
+    ∙ ap (λ n. entries_from f 0 (take n ws)) (let q : suc i ≡ i + 1 = omega arith in q))
 
 -- ---- what is known of entries
 
+-- a word with a letter behind has that letter alone behind
+front_place : (words : ℕ → List (List ℕ)) (b k : ℕ) (u : List ℕ) → k < length (words b) → u ≡ word_at (words b) k → IsFrontPlace words (u ++ b ∷ []) k
+front_place words b k u less e c v same =
+    let fronts : u ≡ v = sym (but_last-push u b) ∙ ap but_last same ∙ but_last-push v c in
+    let lasts : b ∷ [] ≡ c ∷ [] = append_cancel_left u (b ∷ []) (c ∷ []) (same ∙ ap (λ x. x ++ c ∷ []) (sym fronts)) in
+    let letters : b ≡ c = cc in
+    (subst (λ x. k < length (words x)) letters less, ap (λ x. word_at (words x) k) (sym letters) ∙ sym e ∙ fronts)
+
+back_place : (words : ℕ → List (List ℕ)) (a k : ℕ) (v : List ℕ) → k < length (words a) → v ≡ word_at (words a) k → IsBackPlace words (a ∷ v) k
+back_place words a k v less e c u same =
+    let letters : a ≡ c = cc in
+    let backs : v ≡ u = cc in
+    (subst (λ x. k < length (words x)) letters less, ap (λ x. word_at (words x) k) (sym letters) ∙ sym e ∙ backs)
+
 pub record IsKnown (braid : BraidValue) (m : ℕ) (g : List ℕ) (l : Listed) : Type 0 where
   pub listed : IsListedWord braid m g l.word
-  pub right : l.right ≡ true → is_least is_killed braid (but_last l.word) ≡ true
-  pub left : l.left ≡ true → is_least is_killed braid (drop 1 l.word) ≡ true
+  pub right : is_some l.right ≡ true → is_least is_killed braid (but_last l.word) ≡ true
+  pub left : is_some l.left ≡ true → is_least is_killed braid (drop 1 l.word) ≡ true
+  pub front : HasFrontPlace braid m g l
+  pub back : HasBackPlace braid m g l
 
 right_known : (braid : BraidValue) → IsBraid braid → (m : ℕ) (g : List ℕ) → length g ≡ braid.letters → (l : Listed) → Contains (right_entries braid (suc m) g braid.letters) l → IsKnown braid (suc m) g l
 unfolding right_entries
 right_known braid is m g size l i =
-    let (b, j, k) = from_flat_map (λ c. map (right_entry c) (lower_basis braid (suc m) g c)) l (up_to braid.letters) i in
-    let (u, h, e) = from_map (right_entry b) l (lower_basis braid (suc m) g b) k in
-    let (listed, least) = right_word braid is m g size b (from_up_to braid.letters b j) u h in
-    subst (IsKnown braid (suc m) g) (sym e) (record { listed = listed; right = λ r. ap (is_least is_killed braid) (but_last-push u b) ∙ least; left = λ r. cc })
+    let (b, j, k) = from_flat_map (λ c. entries_from (right_entry c) 0 (lower_basis braid (suc m) g c)) l (up_to braid.letters) i in
+    let (p, less, e) = from_entries (right_entry b) 0 (lower_basis braid (suc m) g b) l k in
+    let (listed, least) = right_word braid is m g size b (from_up_to braid.letters b j) (word_at (lower_basis braid (suc m) g b) p) (word_at_is_in (lower_basis braid (suc m) g b) p less) in
+    subst (IsKnown braid (suc m) g) (sym (e ∙ ap (λ n. right_entry b n (word_at (lower_basis braid (suc m) g b) p)) (let q : 0 + p ≡ p = omega arith in q)))
+    (record {
+      listed = listed;
+      right = λ r. ap (is_least is_killed braid) (but_last-push (word_at (lower_basis braid (suc m) g b) p) b) ∙ least;
+      left = λ r. cc;
+      front = front_place (lower_basis braid (suc m) g) b p (word_at (lower_basis braid (suc m) g b) p) less refl;
+      back = tt;
+    })
 
 left_known : (braid : BraidValue) (m : ℕ) (g : List ℕ) (l : Listed) → Contains (left_entries braid (suc m) g braid.letters) l → IsKnown braid (suc m) g l
 unfolding left_entries
 left_known braid m g l i =
-    let (a, j, k) = from_flat_map (λ c. map (left_entry c) (left_lower_basis braid (suc m) g c)) l (up_to braid.letters) i in
-    let (v, h, e) = from_map (left_entry a) l (left_lower_basis braid (suc m) g a) k in
-    let (listed, least) = left_word braid m g a (from_up_to braid.letters a j) v h in
-    subst (IsKnown braid (suc m) g) (sym e) (record { listed = listed; right = λ r. cc; left = λ r. least })
+    let (a, j, k) = from_flat_map (λ c. entries_from (left_entry c) 0 (left_lower_basis braid (suc m) g c)) l (up_to braid.letters) i in
+    let (p, less, e) = from_entries (left_entry a) 0 (left_lower_basis braid (suc m) g a) l k in
+    let (listed, least) = left_word braid m g a (from_up_to braid.letters a j) (word_at (left_lower_basis braid (suc m) g a) p) (word_at_is_in (left_lower_basis braid (suc m) g a) p less) in
+    subst (IsKnown braid (suc m) g) (sym (e ∙ ap (λ n. left_entry a n (word_at (left_lower_basis braid (suc m) g a) p)) (let q : 0 + p ≡ p = omega arith in q)))
+    (record {
+      listed = listed;
+      right = λ r. cc;
+      left = λ r. least;
+      front = tt;
+      back = back_place (left_lower_basis braid (suc m) g) a p (word_at (left_lower_basis braid (suc m) g a) p) less refl;
+    })
 
 -- the entries have each listed word
 right_found : (braid : BraidValue) → IsBraid braid → (m : ℕ) (g w : List ℕ) → IsListedWord braid (suc m) g w → is_least is_killed braid (but_last w) ≡ true →
-    (l : Listed) × Contains (right_entries braid (suc m) g braid.letters) l × (l.word ≡ w) × (l.right ≡ true)
+    (l : Listed) × Contains (right_entries braid (suc m) g braid.letters) l × (l.word ≡ w) × (is_some l.right ≡ true)
 unfolding right_entries
 right_found braid is m g w listed least =
-    let (b, lb, i, e) = from_right_word braid is m g w listed least in (
-      right_entry b (but_last w),
-      in_flat_map (λ c. map (right_entry c) (lower_basis braid (suc m) g c)) b (up_to braid.letters) (right_entry b (but_last w)) (in_up_to braid.letters b lb) (in_map (right_entry b) (but_last w) (lower_basis braid (suc m) g b) i),
-      sym e,
+    let (b, lb, i, e) = from_right_word braid is m g w listed least in
+    let (p, less, here) = position_of (lower_basis braid (suc m) g b) (but_last w) i in (
+      right_entry b (0 + p) (word_at (lower_basis braid (suc m) g b) p),
+      in_flat_map (λ c. entries_from (right_entry c) 0 (lower_basis braid (suc m) g c)) b (up_to braid.letters) (right_entry b (0 + p) (word_at (lower_basis braid (suc m) g b) p)) (in_up_to braid.letters b lb)
+          (in_entries (right_entry b) 0 (lower_basis braid (suc m) g b) p less),
+      ap (λ u. u ++ b ∷ []) here ∙ sym e,
       refl,
     )
 
 left_found : (braid : BraidValue) (m : ℕ) (g w : List ℕ) → IsListedWord braid (suc m) g w → is_least is_killed braid (drop 1 w) ≡ true →
-    (l : Listed) × Contains (left_entries braid (suc m) g braid.letters) l × (l.word ≡ w) × (l.left ≡ true)
+    (l : Listed) × Contains (left_entries braid (suc m) g braid.letters) l × (l.word ≡ w) × (is_some l.left ≡ true)
 unfolding left_entries
 left_found braid m g w listed least =
-    let (a, la, i, e) = from_left_word braid m g w listed least in (
-      left_entry a (drop 1 w),
-      in_flat_map (λ c. map (left_entry c) (left_lower_basis braid (suc m) g c)) a (up_to braid.letters) (left_entry a (drop 1 w)) (in_up_to braid.letters a la) (in_map (left_entry a) (drop 1 w) (left_lower_basis braid (suc m) g a) i),
-      sym e,
+    let (a, la, i, e) = from_left_word braid m g w listed least in
+    let (p, less, here) = position_of (left_lower_basis braid (suc m) g a) (drop 1 w) i in (
+      left_entry a (0 + p) (word_at (left_lower_basis braid (suc m) g a) p),
+      in_flat_map (λ c. entries_from (left_entry c) 0 (left_lower_basis braid (suc m) g c)) a (up_to braid.letters) (left_entry a (0 + p) (word_at (left_lower_basis braid (suc m) g a) p)) (in_up_to braid.letters a la)
+          (in_entries (left_entry a) 0 (left_lower_basis braid (suc m) g a) p less),
+      ap (λ v. a ∷ v) here ∙ sym e,
       refl,
     )
+
+-- ---- one of two
+
+some_cases : (o p : Option ℕ) → is_some (option_or o p) ≡ true → (is_some o ≡ true) ⊎ (is_some p ≡ true)
+some_cases None p e = inr e
+some_cases (Some k) p e = inl refl
+
+some_left : (o p : Option ℕ) → is_some o ≡ true → is_some (option_or o p) ≡ true
+some_left None p e = cc
+some_left (Some k) p e = refl
+
+some_right : (o p : Option ℕ) → is_some p ≡ true → is_some (option_or o p) ≡ true
+some_right None p e = e
+some_right (Some k) p e = refl
+
+one_of : (P : ℕ → Type 0) (o p : Option ℕ) → MatchOption o (Unit {0}) P → MatchOption p (Unit {0}) P → MatchOption (option_or o p) (Unit {0}) P
+one_of P None p h k = k
+one_of P (Some n) p h k = h
 
 -- ---- entries taken together
 
 known_together : (braid : BraidValue) (m : ℕ) (g : List ℕ) (last l : Listed) → l.word ≡ last.word → IsKnown braid m g last → IsKnown braid m g l → IsKnown braid m g (together last l)
 known_together braid m g last l e h k = record {
   listed = h.listed;
-  right = λ r. elim (or_cases last.right l.right r) [ inl t ↦ h.right t | inr t ↦ ap (λ w. is_least is_killed braid (but_last w)) (sym e) ∙ k.right t ];
-  left = λ r. elim (or_cases last.left l.left r) [ inl t ↦ h.left t | inr t ↦ ap (λ w. is_least is_killed braid (drop 1 w)) (sym e) ∙ k.left t ];
+  right = λ r. elim (some_cases last.right l.right r) [ inl t ↦ h.right t | inr t ↦ ap (λ w. is_least is_killed braid (but_last w)) (sym e) ∙ k.right t ];
+  left = λ r. elim (some_cases last.left l.left r) [ inl t ↦ h.left t | inr t ↦ ap (λ w. is_least is_killed braid (drop 1 w)) (sym e) ∙ k.left t ];
+  front = one_of (IsFrontPlace (lower_basis braid m g) last.word) last.right l.right h.front (subst (λ w. MatchOption l.right (Unit {0}) (IsFrontPlace (lower_basis braid m g) w)) e k.front);
+  back = one_of (IsBackPlace (left_lower_basis braid m g) last.word) last.left l.left h.back (subst (λ w. MatchOption l.left (Unit {0}) (IsBackPlace (left_lower_basis braid m g) w)) e k.back);
 }
 
 known-gathered : (braid : BraidValue) (m : ℕ) (g : List ℕ) (last : Listed) (ls : List Listed) → IsKnown braid m g last → AllByRecursion (IsKnown braid m g) ls → AllByRecursion (IsKnown braid m g) (gathered_from last ls)
@@ -133,8 +227,8 @@ pub record Holds (ls : List Listed) (e : Listed) : Type 0 where
   pub entry : Listed
   pub there : Contains ls entry
   pub word : entry.word ≡ e.word
-  pub right : e.right ≡ true → entry.right ≡ true
-  pub left : e.left ≡ true → entry.left ≡ true
+  pub right : is_some e.right ≡ true → is_some entry.right ≡ true
+  pub left : is_some e.left ≡ true → is_some entry.left ≡ true
 
 holds_later : (x : Listed) (ls : List Listed) (e : Listed) → Holds ls e → Holds (x ∷ ls) e
 holds_later x ls e h = record { entry = h.entry; there = contains_later x ls h.entry h.there; word = h.word; right = h.right; left = h.left }
@@ -143,7 +237,7 @@ holds_first : (ls : List Listed) (e : Listed) → Holds (e ∷ ls) e
 holds_first ls e = record { entry = e; there = contains_first e ls; word = refl; right = λ t. t; left = λ t. t }
 
 -- what is held for an entry is held for one that knows less
-holds_less : (ls : List Listed) (e d : Listed) → e.word ≡ d.word → (d.right ≡ true → e.right ≡ true) → (d.left ≡ true → e.left ≡ true) → Holds ls e → Holds ls d
+holds_less : (ls : List Listed) (e d : Listed) → e.word ≡ d.word → (is_some d.right ≡ true → is_some e.right ≡ true) → (is_some d.left ≡ true → is_some e.left ≡ true) → Holds ls e → Holds ls d
 holds_less ls e d w r l h = record { entry = h.entry; there = h.there; word = h.word ∙ w; right = λ t. h.right (r t); left = λ t. h.left (l t) }
 
 last-held : (last : Listed) (ls : List Listed) → Holds (gathered_from last ls) last
@@ -152,7 +246,7 @@ last-held last [] = holds_first [] last
 last-held last (l ∷ ls) = at (are_one l.word last.word) (last-held (together last l) ls)
   where
     at : (b : Bool) → Holds (gathered_from (together last l) ls) (together last l) → Holds (cond b (gathered_from (together last l) ls) (last ∷ gathered_from l ls)) last
-    at true h = holds_less (gathered_from (together last l) ls) (together last l) last refl (or_left last.right l.right) (or_left last.left l.left) h
+    at true h = holds_less (gathered_from (together last l) ls) (together last l) last refl (some_left last.right l.right) (some_left last.left l.left) h
     at false h = holds_first (gathered_from l ls) last
 
 later-held : (last : Listed) (ls : List Listed) (e : Listed) → Contains ls e → Holds (gathered_from last ls) e
@@ -168,7 +262,7 @@ later-held last (l ∷ ls) e i =
     next Less q both own = holds_later last (gathered_from l ls) l own
     next Greater q both own = holds_later last (gathered_from l ls) l own
     next Equal q both own =
-        holds_less (gathered_from (together last l) ls) (together last l) l (sym (same_word l.word last.word q)) (or_right last.right l.right) (or_right last.left l.left) both
+        holds_less (gathered_from (together last l) ls) (together last l) l (sym (same_word l.word last.word q)) (some_right last.right l.right) (some_right last.left l.left) both
 
     at : (b : Bool) → Holds (gathered_from (together last l) ls) e → Holds (gathered_from l ls) e → Holds (cond b (gathered_from (together last l) ls) (last ∷ gathered_from l ls)) e
     at true both own = both
@@ -227,14 +321,14 @@ known_of_all braid is m g size sorted same =
     ])
 
 right_held : (braid : BraidValue) → IsBraid braid → (m : ℕ) (g : List ℕ) (sorted : List Listed) → IsPermutation (all_entries braid (suc m) g) sorted → (w : List ℕ) → IsListedWord braid (suc m) g w → is_least is_killed braid (but_last w) ≡ true →
-    Found (gathered_all sorted) w (λ z. z.right)
+    Found (gathered_all sorted) w (λ z. is_some z.right)
 right_held braid is m g sorted same w listed least =
     let (l, i, e, r) = right_found braid is m g w listed least in
     let h : Holds (gathered_all sorted) l = all-held sorted l (Contains-permutation (all_entries braid (suc m) g) sorted l same (Contains-append_left (right_entries braid (suc m) g braid.letters) (left_entries braid (suc m) g braid.letters) l i)) in
     record { entry = h.entry; there = h.there; word = h.word ∙ e; known = h.right r }
 
 left_held : (braid : BraidValue) → IsBraid braid → (m : ℕ) (g : List ℕ) (sorted : List Listed) → IsPermutation (all_entries braid (suc m) g) sorted → (w : List ℕ) → IsListedWord braid (suc m) g w → is_least is_killed braid (drop 1 w) ≡ true →
-    Found (gathered_all sorted) w (λ z. z.left)
+    Found (gathered_all sorted) w (λ z. is_some z.left)
 left_held braid is m g sorted same w listed least =
     let (l, i, e, r) = left_found braid m g w listed least in
     let h : Holds (gathered_all sorted) l = all-held sorted l (Contains-permutation (all_entries braid (suc m) g) sorted l same (Contains-append_right (right_entries braid (suc m) g braid.letters) (left_entries braid (suc m) g braid.letters) l i)) in
@@ -247,23 +341,25 @@ listed_are_at braid is m g size sorted same rises =
     let rising : IsRising (map word_in out) = all-rise sorted rises in
     let all : AllByRecursion (IsKnown braid (suc m) g) out = all-known braid (suc m) g sorted (known_of_all braid is m g size sorted (IsPermutation-sym (all_entries braid (suc m) g) sorted same)) in
     let known : (l : Listed) → Contains out l → IsKnown braid (suc m) g l = λ l i. all_at (IsKnown braid (suc m) g) out l all i in
-    let right : (w : List ℕ) → IsListedWord braid (suc m) g w → is_least is_killed braid (but_last w) ≡ true → Found out w (λ z. z.right) = right_held braid is m g sorted same in
-    let left : (w : List ℕ) → IsListedWord braid (suc m) g w → is_least is_killed braid (drop 1 w) ≡ true → Found out w (λ z. z.left) = left_held braid is m g sorted same in
+    let right : (w : List ℕ) → IsListedWord braid (suc m) g w → is_least is_killed braid (but_last w) ≡ true → Found out w (λ z. is_some z.right) = right_held braid is m g sorted same in
+    let left : (w : List ℕ) → IsListedWord braid (suc m) g w → is_least is_killed braid (drop 1 w) ≡ true → Found out w (λ z. is_some z.left) = left_held braid is m g sorted same in
     record {
       words = rising_unique (map word_in out) (listed_words braid (suc m) g) rising (listed_words_rise braid (suc m) g)
           (λ w i. let (l, j, e) = from_map word_in w out i in subst (Contains (listed_words braid (suc m) g)) (sym e) (in_listed braid (suc m) g l.word (known l j).listed))
           (λ w i.
           let listed : IsListedWord braid (suc m) g w = from_listed braid (suc m) g w i in
           elim listed.least [
-            | inl least ↦ let h : Found out w (λ z. z.right) = right w listed least in subst (Contains (map word_in out)) h.word (in_map word_in h.entry out h.there)
-            | inr least ↦ let h : Found out w (λ z. z.left) = left w listed least in subst (Contains (map word_in out)) h.word (in_map word_in h.entry out h.there)
+            | inl least ↦ let h : Found out w (λ z. is_some z.right) = right w listed least in subst (Contains (map word_in out)) h.word (in_map word_in h.entry out h.there)
+            | inr least ↦ let h : Found out w (λ z. is_some z.left) = left w listed least in subst (Contains (map word_in out)) h.word (in_map word_in h.entry out h.there)
           ]);
-      right = all_of_entries (λ (l : Listed). l.right ≡ is_least is_killed braid (but_last l.word)) out
-          (λ l i. same_answer l.right (is_least is_killed braid (but_last l.word)) (known l i).right
-          (λ least. let h : Found out l.word (λ z. z.right) = right l.word (known l i).listed least in ap (λ (z : Listed). z.right) (sym (one_entry out h.entry l rising h.there i h.word)) ∙ h.known));
-      left = all_of_entries (λ (l : Listed). l.left ≡ is_least is_killed braid (drop 1 l.word)) out
-          (λ l i. same_answer l.left (is_least is_killed braid (drop 1 l.word)) (known l i).left
-          (λ least. let h : Found out l.word (λ z. z.left) = left l.word (known l i).listed least in ap (λ (z : Listed). z.left) (sym (one_entry out h.entry l rising h.there i h.word)) ∙ h.known));
+      right = all_of_entries (λ (l : Listed). is_some l.right ≡ is_least is_killed braid (but_last l.word)) out
+          (λ l i. same_answer (is_some l.right) (is_least is_killed braid (but_last l.word)) (known l i).right
+          (λ least. let h : Found out l.word (λ z. is_some z.right) = right l.word (known l i).listed least in ap (λ (z : Listed). is_some z.right) (sym (one_entry out h.entry l rising h.there i h.word)) ∙ h.known));
+      left = all_of_entries (λ (l : Listed). is_some l.left ≡ is_least is_killed braid (drop 1 l.word)) out
+          (λ l i. same_answer (is_some l.left) (is_least is_killed braid (drop 1 l.word)) (known l i).left
+          (λ least. let h : Found out l.word (λ z. is_some z.left) = left l.word (known l i).listed least in ap (λ (z : Listed). is_some z.left) (sym (one_entry out h.entry l rising h.there i h.word)) ∙ h.known));
+      fronts = all_of_entries (HasFrontPlace braid (suc m) g) out (λ l i. (known l i).front);
+      backs = all_of_entries (HasBackPlace braid (suc m) g) out (λ l i. (known l i).back);
     }
 
 pub listed_are : (braid : BraidValue) → IsBraid braid → (m : ℕ) (g : List ℕ) → 1 ≤ m → length g ≡ braid.letters → (sorted : List Listed) →
@@ -307,14 +403,14 @@ kept_words t u (l ∷ ls) h = at (t l) (u l.word) h.0 (kept_words t u ls h.1)
     at true false e rest = cc
     at false true e rest = cc
 
-both_flags : (braid : BraidValue) (ls : List Listed) → AllByRecursion (λ (l : Listed). l.right ≡ is_least is_killed braid (but_last l.word)) ls → AllByRecursion (λ (l : Listed). l.left ≡ is_least is_killed braid (drop 1 l.word)) ls →
-    AllByRecursion (λ (l : Listed). (l.right && l.left) ≡ (is_least is_killed braid (but_last l.word) && is_least is_killed braid (drop 1 l.word))) ls
+both_flags : (braid : BraidValue) (ls : List Listed) → AllByRecursion (λ (l : Listed). is_some l.right ≡ is_least is_killed braid (but_last l.word)) ls → AllByRecursion (λ (l : Listed). is_some l.left ≡ is_least is_killed braid (drop 1 l.word)) ls →
+    AllByRecursion (λ (l : Listed). (is_some l.right && is_some l.left) ≡ (is_least is_killed braid (but_last l.word) && is_least is_killed braid (drop 1 l.word))) ls
 both_flags braid [] h k = tt
 both_flags braid (l ∷ ls) h k = (ap₂ (λ x y. x && y) h.0 k.0, both_flags braid ls h.1 k.1)
 
-pub new_words_are : (braid : BraidValue) (m : ℕ) (g : List ℕ) (listed : List Listed) (new : List (List ℕ)) (i : ℕ) → 1 ≤ m → AreListed braid m g listed → length listed ≤ i → new ≡ map word_in (filter (λ (x : Listed). x.right && x.left) (take i listed)) →
+pub new_words_are : (braid : BraidValue) (m : ℕ) (g : List ℕ) (listed : List Listed) (new : List (List ℕ)) (i : ℕ) → 1 ≤ m → AreListed braid m g listed → length listed ≤ i → new ≡ map word_in (filter (λ (x : Listed). is_some x.right && is_some x.left) (take i listed)) →
     new ≡ block_new_words braid m g
 new_words_are braid m g listed new i some are long e =
-    e ∙ ap (λ ls. map word_in (filter (λ (x : Listed). x.right && x.left) ls)) (take_all i listed long)
-    ∙ kept_words (λ (x : Listed). x.right && x.left) (λ w. is_least is_killed braid (but_last w) && is_least is_killed braid (drop 1 w)) listed (both_flags braid listed are.right are.left)
+    e ∙ ap (λ ls. map word_in (filter (λ (x : Listed). is_some x.right && is_some x.left) ls)) (take_all i listed long)
+    ∙ kept_words (λ (x : Listed). is_some x.right && is_some x.left) (λ w. is_least is_killed braid (but_last w) && is_least is_killed braid (drop 1 w)) listed (both_flags braid listed are.right are.left)
     ∙ ap (filter (λ w. is_least is_killed braid (but_last w) && is_least is_killed braid (drop 1 w))) are.words ∙ new_of_listed braid m g some

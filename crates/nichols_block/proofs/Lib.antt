@@ -1,7 +1,9 @@
+pub mod AllLeast
 pub mod CollectedValues
 pub mod DerivedRows
 pub mod DerivedSums
 pub mod EndForms
+pub mod EndPlaces
 pub mod FirstRule
 pub mod FlatRows
 pub mod GatheredWords
@@ -10,6 +12,7 @@ pub mod ListedWords
 pub mod LowerBelow
 pub mod LowerRules
 pub mod NewBlockWords
+pub mod NewPlaces
 pub mod NewRowEntries
 pub mod NewRowShapes
 pub mod Numbering
@@ -24,6 +27,5 @@ pub mod RuleParts
 pub mod RulesBelow
 pub mod Sides
 pub mod SpotsBelow
-pub mod SpotsFound
 pub mod SumForms
 pub mod TestedValues

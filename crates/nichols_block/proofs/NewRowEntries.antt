@@ -35,6 +35,7 @@ use Rattle.nichols_braid.proofs.Killed.{is_killed_sound, is_killed_complete}
 use Rattle.nichols_braid.proofs.Maps.{weight-plus, extended_same, everywhere}
 use Rattle.nichols_echelon.specs.Cells.{Cell, entry, AllBelow, IsRow}
 use Rattle.nichols_echelon.specs.Cells.{AllElements as AllCellsElements}
+use Rattle.nichols_echelon.specs.Parts.{cells_behind}
 use Rattle.nichols_echelon.specs.Rows.{RowsValue}
 use Rattle.nichols_echelon.proofs.Entries.{entry-nil, entry-append}
 use Rattle.nichols_echelon.proofs.Shapes.{all_read}
@@ -44,7 +45,7 @@ use Rattle.nichols_rows.proofs.Split.{HaveEntries}
 use Rattle.nichols_value.specs.Block.{lower_basis}
 use Rattle.nichols_value.proofs.Blocks.{from_block_basis, lower_basis_is, lower_basis_rises, derived_in_block}
 use Rattle.nichols_value.proofs.FormCells.{elements_back, words_at_differ, no_value}
-use Rattle.nichols_block.specs.NewRows.{columns_to, cells_behind, joined_row, AreNewRows}
+use Rattle.nichols_block.specs.NewRows.{columns_to, joined_row, AreNewRows}
 use Rattle.nichols_block.specs.Rows.{AreRowsOf, AreNewDerivatives, rows_by}
 use Rattle.nichols_block.specs.Words.{block_new_words}
 use Rattle.nichols_block.proofs.NewBlockWords.{from_block_new_words}

@@ -9,10 +9,11 @@ use Rattle.nichols_braid.specs.Forms.{derived_form}
 use Rattle.nichols_braid.specs.Kernel.{is_killed}
 use Rattle.nichols_echelon.specs.Cells.{Cell, AllBelow, AllElements, AllNonzero, IsBelowFirst, IsRising, IsRow, columns_of}
 use Rattle.nichols_echelon.specs.Combination.{AllRowsBelow, AllRowsElements, AreRows, row_at}
+use Rattle.nichols_echelon.specs.Parts.{cells_behind}
 use Rattle.nichols_echelon.specs.Rows.{RowsValue}
 use Rattle.nichols_echelon.proofs.Shapes.{all_rows, row_nil}
 use Rattle.nichols_value.specs.Block.{lower_basis}
-use Rattle.nichols_block.specs.NewRows.{AreNewRows, columns_to, joined_row, cells_behind}
+use Rattle.nichols_block.specs.NewRows.{AreNewRows, columns_to, joined_row}
 use Rattle.nichols_block.specs.Rows.{AreNewDerivatives, rows_by}
 use Rattle.nichols_block.specs.Words.{block_new_words}
 use Rattle.nichols_block.proofs.NewRowEntries.{IsRowOf, row_by_letter}

@@ -1,6 +1,6 @@
 -- One word of a pass: a new one, one that is read from the left, or one that is read from the right.
 use Rattle.std.proofs.Common.{◌≡◌, ℕ, zero, suc, ◌+◌, ◌-◌, ◌<◌, ◌≤◌, ◌&&◌, Bool, true, false, not, List, [], ◌∷◌, ◌++◌, drop, take, replicate, slice_index_or, length, map, get_or, refl, sym, ◌∙◌, ap, ap₂, subst, arith, inl, inr}
-use Rattle.std.specs.Prelude.{slice_index}
+use Rattle.std.specs.Prelude.{slice_index, is_some}
 use Rattle.std.specs.List.{Contains}
 use Rattle.std.proofs.Math.Seq.{drop-cons}
 use Rattle.std.proofs.lemmas.List.{append-nil, get_or-map, length-map, length-replicate, length-set}
@@ -31,7 +31,7 @@ use Rattle.nichols_block.specs.Forms.{AreFormsOf}
 use Rattle.nichols_block.specs.declared.words.Listed.{Listed}
 use Rattle.nichols_block.specs.Places.{ArePlacesOf}
 use Rattle.nichols_block.specs.Rows.{rows_by}
-use Rattle.nichols_block.specs.Words.{AreListed, block_new_words, but_last, is_left, is_right, listed_words}
+use Rattle.nichols_block.specs.Words.{AreListed, HasBackPlace, HasFrontPlace, IsListedEntry, block_new_words, but_last, is_left, is_right, listed_words}
 use Rattle.nichols_block.specs.Pass.{IsOfBlock, IsPassing, IsSide, IsSumPushedAt, IsTable, is_both, is_related, least_more, new_cells, spots_more, with_row_of}
 use Rattle.nichols_block.proofs.ListedWords.{IsListedWord, from_listed, left_of_listed, listed_words_rise, new_of_listed, right_of_listed}
 use Rattle.nichols_block.proofs.RelatedWords.{related_of_listed}
@@ -58,11 +58,11 @@ words_left listed k l less at =
     drop-cons (words_in listed) k [] (subst (λ n. k < n) (sym (length-map listed (λ (x : Listed). x.word))) less)
     ∙ ap₂ (λ v n. v ∷ drop n (words_in listed)) (get_or-map (λ (x : Listed). x.word) listed k l [] less ∙ ap (λ (x : Listed). x.word) (sym at)) (let e : suc k ≡ k + 1 = omega arith in e)
 
-first_back : (w : List ℕ) → 1 ≤ length w → w ≡ slice_index w 0 ∷ drop 1 w
+pub first_back : (w : List ℕ) → 1 ≤ length w → w ≡ slice_index w 0 ∷ drop 1 w
 first_back [] h = absurd (omega arith)
 first_back (x ∷ w) h = refl
 
-last_back : (w : List ℕ) → 1 ≤ length w → w ≡ but_last w ++ slice_index w (length w - 1) ∷ []
+pub last_back : (w : List ℕ) → 1 ≤ length w → w ≡ but_last w ++ slice_index w (length w - 1) ∷ []
 last_back [] h = absurd (omega arith)
 last_back (x ∷ []) h = refl
 last_back (x ∷ y ∷ w) h =
@@ -101,11 +101,11 @@ word_is_met braid m g listed k l a b some are less at a_is b_is = record {
     rising_drop (suc n) (w ∷ ws) h = rising_drop n ws h.1
 
 -- what its marks say
-pub mark_right : (braid : BraidValue) (m : ℕ) (g : List ℕ) (listed : List Listed) (k : ℕ) (l : Listed) → AreListed braid m g listed → k < length listed → l ≡ get_or listed k l → is_least is_killed braid (but_last l.word) ≡ l.right
-mark_right braid m g listed k l are less at = sym (subst (λ (x : Listed). x.right ≡ is_least is_killed braid (but_last x.word)) (sym at) (All-from_recursion (λ (x : Listed). x.right ≡ is_least is_killed braid (but_last x.word)) listed are.right k l less))
+pub mark_right : (braid : BraidValue) (m : ℕ) (g : List ℕ) (listed : List Listed) (k : ℕ) (l : Listed) → AreListed braid m g listed → k < length listed → l ≡ get_or listed k l → is_least is_killed braid (but_last l.word) ≡ is_some l.right
+mark_right braid m g listed k l are less at = sym (subst (λ (x : Listed). is_some x.right ≡ is_least is_killed braid (but_last x.word)) (sym at) (All-from_recursion (λ (x : Listed). is_some x.right ≡ is_least is_killed braid (but_last x.word)) listed are.right k l less))
 
-pub mark_left : (braid : BraidValue) (m : ℕ) (g : List ℕ) (listed : List Listed) (k : ℕ) (l : Listed) → AreListed braid m g listed → k < length listed → l ≡ get_or listed k l → is_least is_killed braid (drop 1 l.word) ≡ l.left
-mark_left braid m g listed k l are less at = sym (subst (λ (x : Listed). x.left ≡ is_least is_killed braid (drop 1 x.word)) (sym at) (All-from_recursion (λ (x : Listed). x.left ≡ is_least is_killed braid (drop 1 x.word)) listed are.left k l less))
+pub mark_left : (braid : BraidValue) (m : ℕ) (g : List ℕ) (listed : List Listed) (k : ℕ) (l : Listed) → AreListed braid m g listed → k < length listed → l ≡ get_or listed k l → is_least is_killed braid (drop 1 l.word) ≡ is_some l.left
+mark_left braid m g listed k l are less at = sym (subst (λ (x : Listed). is_some x.left ≡ is_least is_killed braid (drop 1 x.word)) (sym at) (All-from_recursion (λ (x : Listed). is_some x.left ≡ is_least is_killed braid (drop 1 x.word)) listed are.left k l less))
 
 -- one of them says yes
 pub some_mark : (braid : BraidValue) (m : ℕ) (g : List ℕ) (listed : List Listed) (k : ℕ) (l : Listed) → AreListed braid m g listed → k < length listed → l ≡ get_or listed k l → is_least is_killed braid (but_last l.word) ≡ false → is_least is_killed braid (drop 1 l.word) ≡ true
@@ -120,6 +120,16 @@ some_mark braid m g listed k l are less at other =
         subst (λ vs. Contains vs l.word) are.words
         (subst (Contains (words_in listed)) (get_or-map (λ (x : Listed). x.word) listed k l [] less ∙ ap (λ (x : Listed). x.word) (sym at))
         (word_at_is_in (words_in listed) k (subst (λ n. k < n) (sym (length-map listed (λ (x : Listed). x.word))) less)))
+
+-- what holds of its entry
+pub entry_known : (braid : BraidValue) (m : ℕ) (g : List ℕ) (listed : List Listed) (k : ℕ) (l : Listed) → AreListed braid m g listed → k < length listed → l ≡ get_or listed k l → IsListedEntry braid m g l
+entry_known braid m g listed k l are less at = record {
+  listed = subst (λ vs. Contains vs l.word) are.words
+      (subst (Contains (words_in listed)) (get_or-map (λ (x : Listed). x.word) listed k l [] less ∙ ap (λ (x : Listed). x.word) (sym at))
+      (word_at_is_in (words_in listed) k (subst (λ n. k < n) (sym (length-map listed (λ (x : Listed). x.word))) less)));
+  front = subst (HasFrontPlace braid m g) (sym at) (All-from_recursion (HasFrontPlace braid m g) listed are.fronts k l less);
+  back = subst (HasBackPlace braid m g) (sym at) (All-from_recursion (HasBackPlace braid m g) listed are.backs k l less);
+}
 
 -- how long it is
 pub word_size : (braid : BraidValue) (m : ℕ) (g : List ℕ) (listed : List Listed) (k : ℕ) (l : Listed) → AreListed braid m g listed → k < length listed → l ≡ get_or listed k l → length l.word ≡ m

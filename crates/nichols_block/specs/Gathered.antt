@@ -1,5 +1,6 @@
 -- Listed words that are sorted, each taken once.
-use Rattle.std.specs.Prelude.{ℕ, ◌||◌, List, [], ◌∷◌}
+use Rattle.std.specs.Prelude.{ℕ, List, [], ◌∷◌}
+use Rattle.std.specs.Option.{option_or}
 use Rattle.nichols_tensor.specs.Gathered.{gathered_by}
 use Rattle.nichols_block.specs.declared.words.Listed.{Listed}
 
@@ -8,7 +9,7 @@ word_in l = l.word
 
 -- what is known of a word by either of two entries
 abbrev pub together : Listed → Listed → Listed
-together last l = record { word = last.word; right = last.right || l.right; left = last.left || l.left }
+together last l = record { word = last.word; right = option_or last.right l.right; left = option_or last.left l.left }
 
 -- an entry and those after it, with neighbours of one word taken together
 abbrev pub gathered_from : Listed → List Listed → List Listed

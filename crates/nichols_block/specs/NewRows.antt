@@ -1,8 +1,9 @@
 -- The rows of the new words of a block: the cells of the normal forms of a word's derivatives by each letter, one behind the other.
-use Rattle.std.specs.Prelude.{◌≡◌, ◌<◌, ◌+◌, ◌^◌, ℕ, zero, suc, List, [], ◌++◌, map, length, slice_index, slice_index_or}
+use Rattle.std.specs.Prelude.{◌≡◌, ◌<◌, ◌+◌, ◌^◌, ℕ, zero, suc, List, [], ◌++◌, length, slice_index, slice_index_or}
 use Rattle.nichols_braid.specs.Braid.{BraidValue}
 use Rattle.nichols_echelon.specs.Cells.{Cell}
 use Rattle.nichols_echelon.specs.Combination.{row_at}
+use Rattle.nichols_echelon.specs.Parts.{cells_behind}
 use Rattle.nichols_echelon.specs.Rows.{RowsValue}
 use Rattle.nichols_value.specs.Block.{lower_basis}
 use Rattle.nichols_block.specs.Rows.{rows_by}
@@ -12,10 +13,6 @@ use Rattle.nichols_block.specs.Words.{block_new_words}
 unfoldable pub columns_to : BraidValue → ℕ → List ℕ → ℕ → ℕ
 columns_to braid m g zero = 0
 columns_to braid m g (suc a) = columns_to braid m g a + length (lower_basis braid m g (suc a))
-
--- cells behind so many columns
-abbrev pub cells_behind : ℕ → List Cell → List Cell
-cells_behind offset cells = map (λ c. record { column = offset + c.column; coefficient = c.coefficient }) cells
 
 -- the k-th rows by the letters up to a, one behind the other
 unfoldable pub joined_row : BraidValue → ℕ → List ℕ → List RowsValue → ℕ → ℕ → List Cell

@@ -1,7 +1,7 @@
 //! Derivatives of the new words of a block, in normal form over the lower blocks.
 
 ghost use Rattle.std.specs.Prelude.{◌≡◌, ◌≤◌, ◌-◌, [], IfOk, OnOk, length};
-ghost use Rattle.std.specs.List.{AllByRecursion, Contains};
+ghost use Rattle.std.specs.List.{AllByRecursion};
 ghost use Rattle.nichols_field.specs.Field.{IsElement};
 ghost use Rattle.nichols_tensor.specs.Combination.{scalar_multiple};
 ghost use Rattle.nichols_tensor.specs.Combination.{AllElements as AllTermsElements};
@@ -17,68 +17,19 @@ ghost use Rattle.nichols_value.specs.Kept.{IsSpot};
 ghost use Rattle.nichols_value.specs.Rule.{right_in, rule_of};
 ghost use Rattle.nichols_block.specs.Lower.{AreLowerRules, IsUpperBlock};
 ghost use Rattle.nichols_block.specs.Rows.{AreNewDerivatives, AreRowsAt, AreRulesBelow, AreSpotsOf, AreSums, HasNewRow, IsRuleBelow, candidate_at, lower_words, summed_forms};
-ghost use Rattle.nichols_block.specs.Words.{block_new_words};
 
 use crate::MOST_PLACES;
 use crate::empty::empty_rows;
-use crate::lower::{place_in, rules_below, words_below};
+use crate::lower::rules_below;
 use nichols_braid::Braid;
 use nichols_echelon::{Cell, Rows, Sums};
 use nichols_field::Field;
 use nichols_value::{BlockKey, BlockRule, LowerValue, Spot};
-use nichols_words::Word;
 use std::alloc::{AllocError, Global};
-
-/// Where a new word `u b` stands below: the letter b, and the place of u among the words of the lower block by b.
-fn spot_of(
-    braid: &Braid,
-    key: &BlockKey,
-    lower: &[LowerValue],
-    word: Word,
-) -> Result<Spot, AllocError>
-    requires block { IsUpperBlock braid.now key.now }
-    requires lower { AreLowerRules braid.now key.now lower.now }
-    requires new { Contains (block_new_words braid.now key.now.degree key.now.product) word }
-    ensures inside { IfOk result (IsSpot (lower_words braid.now key.now.degree key.now.product)) }
-    ensures word { IfOk result (λ s. candidate_at (lower_words braid.now key.now.degree key.now.product) s ≡ word) }
-{
-    let _field = braid.field();
-    let k = word.len() - 1;
-    let letter = word.letter(k);
-    let front = word.prefix(k);
-    let place = place_in(words_below(braid, key, lower, letter), &front);
-    if place > MOST_PLACES {
-        return Err(AllocError);
-    }
-    Ok(Spot {
-        letter,
-        place: place as u32,
-    })
-}
-
-/// Where the new words stand below.
-fn spots_of(
-    alloc: Global,
-    braid: &Braid,
-    key: &BlockKey,
-    lower: &[LowerValue],
-    new: &[Word],
-) -> Result<Vec<Spot>, AllocError>
-    requires block { IsUpperBlock braid.now key.now }
-    requires lower { AreLowerRules braid.now key.now lower.now }
-    requires new { new.now ≡ block_new_words braid.now key.now.degree key.now.product }
-    ensures { IfOk result (λ r. AreSpotsOf braid.now key.now.degree key.now.product r.items) }
-{
-    let mut spots = Vec::with_capacity(alloc, new.len())?;
-    for word in new {
-        spots.push(spot_of(braid, key, lower, *word)?)?;
-    }
-    Ok(spots)
-}
 
 /// The rule of the lower block by a letter, if it has one.
 #[inline]
-fn rule_at<'t>(
+pub(crate) fn rule_at<'t>(
     braid: &Braid,
     key: &BlockKey,
     rules: &[Option<&'t BlockRule>],
@@ -233,7 +184,7 @@ fn rows_by_letter(
     }
 }
 
-/// By letter a, from letter 1 on, the normal forms of the derivatives by a of the new words, as rows over the words of the lower
+/// By letter a, from letter 1 on, the normal forms of the derivatives by a of the new words, which stand at these spots, as rows over the words of the lower
 /// block by a.
 ///
 /// The derivative of `u b` by a is u, where a is b, and `q(a,b) ∂_a(u) x_{a ▷ b}` added up; the normal form of `∂_a(u)` and those
@@ -243,22 +194,20 @@ pub(crate) fn derivative_rows(
     braid: &Braid,
     key: &BlockKey,
     lower: &[LowerValue],
-    new: &[Word],
+    spots: &[Spot],
 ) -> Result<Vec<Rows>, AllocError>
     requires block { IsUpperBlock braid.now key.now }
     requires lower { AreLowerRules braid.now key.now lower.now }
-    requires new { new.now ≡ block_new_words braid.now key.now.degree key.now.product }
+    requires spots { AreSpotsOf braid.now key.now.degree key.now.product spots.now }
     ensures { IfOk result (λ r. AreNewDerivatives braid.now key.now.degree key.now.product r.items) }
 {
     let field = braid.field();
-    let spots = spots_of(alloc, braid, key, lower, new)?;
     let rules = rules_below(alloc, braid, key, lower)?;
-    let places = spots.as_slice();
     let found = rules.as_slice();
     let mut sums = Sums::new(alloc, field, 0)?;
     let mut lists = Vec::new(alloc);
     for a in 0..braid.letters() {
-        lists.push(rows_by_letter(alloc, braid, key, found, a + 1, places, &mut sums)?)?;
+        lists.push(rows_by_letter(alloc, braid, key, found, a + 1, spots, &mut sums)?)?;
     }
     Ok(lists)
 }

@@ -2,6 +2,7 @@
 
 ghost use Rattle.std.specs.Prelude.{◌≡◌, ◌<◌, ◌≤◌, ◌+◌, ◌-◌, ◌++◌, ◌∷◌, ℕ, Some, None, [], IfOk, OnOk, MatchOption, drop, false, length, map, slice_index, slice_index_or, take, true};
 ghost use Rattle.nichols_tensor.specs.Combination.{single};
+ghost use Rattle.nichols_tensor.specs.Positions.{word_at};
 ghost use Rattle.nichols_braid.specs.Braid.{IsLetter};
 ghost use Rattle.nichols_braid.specs.Kernel.{is_killed};
 ghost use Rattle.nichols_braid.specs.Least.{is_least, normal_form};
@@ -13,16 +14,18 @@ ghost use Rattle.nichols_rows.specs.Places.{IsInside};
 ghost use Rattle.nichols_value.specs.Block.{block_basis, left_lower_basis, lower_basis};
 ghost use Rattle.nichols_value.specs.Kept.{AreCellsOf};
 ghost use Rattle.nichols_value.specs.Rule.{rule_of};
+ghost use Rattle.nichols_block.specs.Below.{AreSent};
 ghost use Rattle.nichols_block.specs.Forms.{AreFormsOf};
 ghost use Rattle.nichols_block.specs.Lower.{AreLowerRules, IsUpperBlock};
 ghost use Rattle.nichols_block.specs.Pass.{IsOfBlock, IsPassing, IsSumPushed, IsSumPushedAt, least_more, new_cells, spots_more, with_row_of};
 ghost use Rattle.nichols_block.specs.Places.{ArePlacesOf};
-ghost use Rattle.nichols_block.specs.Rows.{rows_by};
-ghost use Rattle.nichols_block.specs.Words.{AreListed, but_last};
+ghost use Rattle.nichols_block.specs.Rows.{AreRulesBelow, rows_by};
+ghost use Rattle.nichols_block.specs.Words.{AreListed, IsBackPlace, IsFrontPlace, but_last};
 
 use crate::MOST_PLACES;
+use crate::derivatives::rule_at;
 use crate::empty::empty_rows_by_letter;
-use crate::lower::{place_in, rules_below, sent_to};
+use crate::lower::{all_sent, rules_below};
 use crate::words::Listed;
 use nichols_braid::Braid;
 use nichols_echelon::{Cell, Place, Rows, Sums};
@@ -214,17 +217,71 @@ fn push_new(
     push_row_at(&mut forms.left, a, numbers.cells.as_slice())
 }
 
-/// A word without its first and its last letter.
-fn middle(word: &Word) -> Word
-    requires { 2 ≤ length word.now }
-    ensures { result ≡ take (length word.now - 2) (drop 1 word.now) }
+/// The letter that is sent to a letter, from a table.
+fn sent_at(braid: &Braid, key: &BlockKey, sent: &[u8], letter: u8) -> u8
+    requires sent { AreSent braid.now key.now.degree key.now.product sent.now }
+    requires letter { IsLetter braid.now letter }
+    ensures letter { IsLetter braid.now result }
+    ensures sent { slice_index key.now.product (result - 1) ≡ letter }
+    ensures words { left_lower_basis braid.now key.now.degree key.now.product letter ≡ lower_basis braid.now key.now.degree key.now.product result }
 {
-    let mut inner = Word::empty();
-    let letters = &word.letters()[1..word.len() - 1];
-    for letter in letters {
-        let _room = inner.push(*letter);
-    }
-    inner
+    sent[usize::from(letter) - 1]
+}
+
+/// Where a word of the block stands without its end letters, by its place without the last one: its place in the lower block by the
+/// last letter of the one by c, c being sent to the first letter.
+fn back_of(
+    braid: &Braid,
+    key: &BlockKey,
+    rules: &[Option<&BlockRule>],
+    c: u8,
+    word: &Word,
+    place: u32,
+) -> usize
+    requires block { IsUpperBlock braid.now key.now }
+    requires rules { AreRulesBelow braid.now key.now.degree key.now.product rules.now }
+    requires letter { IsLetter braid.now c }
+    requires sent { slice_index key.now.product (c - 1) ≡ slice_index word.now 0 }
+    requires word { IsOfBlock braid.now key.now.degree key.now.product word.now }
+    requires long { 2 ≤ length word.now }
+    requires place { IsFrontPlace (lower_basis braid.now key.now.degree key.now.product) word.now place }
+    ensures below { result < length (lower_basis braid.now (key.now.degree - 1) (product_before braid.now c key.now.product) (slice_index word.now (length word.now - 1))) }
+    ensures place { word_at (lower_basis braid.now (key.now.degree - 1) (product_before braid.now c key.now.product) (slice_index word.now (length word.now - 1))) result ≡ take (length word.now - 2) (drop 1 word.now) }
+{
+    let _field = braid.field();
+    let b = word.letter(word.len() - 1);
+    let Some(own) = rule_at(braid, key, rules, b) else {
+        unreachable!()
+    };
+    own.ends(place as usize).back as usize
+}
+
+/// The same by its place without the first letter: its place in the left lower block by the first letter of the one by the last
+/// letter.
+fn front_of(
+    braid: &Braid,
+    key: &BlockKey,
+    rules: &[Option<&BlockRule>],
+    c: u8,
+    word: &Word,
+    place: u32,
+) -> usize
+    requires block { IsUpperBlock braid.now key.now }
+    requires rules { AreRulesBelow braid.now key.now.degree key.now.product rules.now }
+    requires letter { IsLetter braid.now c }
+    requires sent { slice_index key.now.product (c - 1) ≡ slice_index word.now 0 }
+    requires words { left_lower_basis braid.now key.now.degree key.now.product (slice_index word.now 0) ≡ lower_basis braid.now key.now.degree key.now.product c }
+    requires word { IsOfBlock braid.now key.now.degree key.now.product word.now }
+    requires long { 2 ≤ length word.now }
+    requires place { IsBackPlace (left_lower_basis braid.now key.now.degree key.now.product) word.now place }
+    ensures below { result < length (left_lower_basis braid.now (key.now.degree - 1) (product_before braid.now (slice_index word.now (length word.now - 1)) key.now.product) (slice_index word.now 0)) }
+    ensures place { word_at (left_lower_basis braid.now (key.now.degree - 1) (product_before braid.now (slice_index word.now (length word.now - 1)) key.now.product) (slice_index word.now 0)) result ≡ take (length word.now - 2) (drop 1 word.now) }
+{
+    let _field = braid.field();
+    let Some(own) = rule_at(braid, key, rules, c) else {
+        unreachable!()
+    };
+    own.ends(place as usize).front as usize
 }
 
 /// The cells of the normal form of a word of the block without its first letter, where that isn't least, and the word without its
@@ -235,6 +292,7 @@ fn form_without_first<'t>(
     c: u8,
     rule: Option<&'t BlockRule>,
     word: &Word,
+    back: usize,
 ) -> &'t [Cell]
     requires block { IsUpperBlock braid.now key.now }
     requires letter { IsLetter braid.now c }
@@ -244,6 +302,8 @@ fn form_without_first<'t>(
     requires word { IsOfBlock braid.now key.now.degree key.now.product word.now }
     requires least { is_least is_killed braid.now (but_last word.now) ≡ true }
     requires other { is_least is_killed braid.now (drop 1 word.now) ≡ false }
+    requires below { back < length (lower_basis braid.now (key.now.degree - 1) (product_before braid.now c key.now.product) (slice_index word.now (length word.now - 1))) }
+    requires place { word_at (lower_basis braid.now (key.now.degree - 1) (product_before braid.now c key.now.product) (slice_index word.now (length word.now - 1))) back ≡ take (length word.now - 2) (drop 1 word.now) }
     ensures { AreCellsOf (left_lower_basis braid.now key.now.degree key.now.product (slice_index word.now 0)) (normal_form is_killed braid.now (key.now.degree - 1) (single (drop 1 word.now))) result.now }
 {
     let _field = braid.field();
@@ -251,8 +311,7 @@ fn form_without_first<'t>(
         return &[];
     };
     let b = word.letter(word.len() - 1);
-    let inner = middle(word);
-    rule.right_row(b, place_in(rule.below(b), &inner))
+    rule.right_row(b, back)
 }
 
 /// The cells of the normal form of a word of the block without its last letter, where that isn't least, and the word without its
@@ -262,6 +321,7 @@ fn form_without_last<'t>(
     key: &BlockKey,
     rule: Option<&'t BlockRule>,
     word: &Word,
+    front: usize,
 ) -> &'t [Cell]
     requires block { IsUpperBlock braid.now key.now }
     requires rule { MatchOption rule (lower_basis braid.now key.now.degree key.now.product (slice_index word.now (length word.now - 1)) ≡ [])
@@ -269,6 +329,8 @@ fn form_without_last<'t>(
     requires word { IsOfBlock braid.now key.now.degree key.now.product word.now }
     requires least { is_least is_killed braid.now (drop 1 word.now) ≡ true }
     requires other { is_least is_killed braid.now (but_last word.now) ≡ false }
+    requires below { front < length (left_lower_basis braid.now (key.now.degree - 1) (product_before braid.now (slice_index word.now (length word.now - 1)) key.now.product) (slice_index word.now 0)) }
+    requires place { word_at (left_lower_basis braid.now (key.now.degree - 1) (product_before braid.now (slice_index word.now (length word.now - 1)) key.now.product) (slice_index word.now 0)) front ≡ take (length word.now - 2) (drop 1 word.now) }
     ensures { AreCellsOf (lower_basis braid.now key.now.degree key.now.product (slice_index word.now (length word.now - 1))) (normal_form is_killed braid.now (key.now.degree - 1) (single (but_last word.now))) result.now }
 {
     let _field = braid.field();
@@ -276,9 +338,7 @@ fn form_without_last<'t>(
         return &[];
     };
     let a = word.letter(0);
-    let inner = middle(word);
-    let c = sent_to(braid, rule.key(), a);
-    rule.left_row(a, place_in(rule.below(c), &inner))
+    rule.left_row(a, front)
 }
 
 /// Meets the k-th word: its row goes behind those of its last letter, if the word without it is least, and behind those of its first
@@ -287,6 +347,7 @@ fn meet(
     braid: &Braid,
     key: &BlockKey,
     rules: &[Option<&BlockRule>],
+    sent: &[u8],
     listed: &[Listed],
     k: usize,
     places: &[Place],
@@ -298,6 +359,7 @@ fn meet(
     requires count { length rules.now ≡ braid.now.letters }
     requires each { (b : ℕ) → IsLetter braid.now b → MatchOption (slice_index_or rules.now (b - 1) None) (lower_basis braid.now key.now.degree key.now.product b ≡ [])
         (λ s. s.now ≡ rule_of braid.now (key.now.degree - 1) (product_before braid.now b key.now.product)) }
+    requires sent { AreSent braid.now key.now.degree key.now.product sent.now }
     requires listed { AreListed braid.now key.now.degree key.now.product listed.now }
     requires inside { k < length listed.now }
     requires places { ArePlacesOf braid.now key.now.degree key.now.product places.now }
@@ -313,13 +375,14 @@ fn meet(
     let word = entry.word;
     let a = word.letter(0);
     let b = word.letter(word.len() - 1);
-    if entry.right {
-        if entry.left {
+    let c = sent_at(braid, key, sent, a);
+    if let Some(place) = entry.right {
+        if entry.left.is_some() {
             push_new(&places[numbers.columns.len()], a, b, numbers, forms)?;
             Ok(())
         } else {
-            let c = sent_to(braid, key, a);
-            let cells = form_without_first(braid, key, c, rules[usize::from(c) - 1], &word);
+            let back = back_of(braid, key, rules, c, &word, place);
+            let cells = form_without_first(braid, key, c, rules[usize::from(c) - 1], &word, back);
             push_spot(&mut forms.spots, b, forms.right.as_slice())?;
             push_sum_at(
                 field,
@@ -333,7 +396,11 @@ fn meet(
             Ok(())
         }
     } else {
-        let cells = form_without_last(braid, key, rules[usize::from(b) - 1], &word);
+        let Some(place) = entry.left else {
+            unreachable!()
+        };
+        let front = front_of(braid, key, rules, c, &word, place);
+        let cells = form_without_last(braid, key, rules[usize::from(b) - 1], &word, front);
         push_sum_at(
             field,
             cells,
@@ -373,6 +440,7 @@ pub(crate) fn block_forms(
     }
     let field = braid.field();
     let rules = rules_below(alloc, braid, key, lower)?;
+    let sent = all_sent(alloc, braid, key)?;
     let mut sums = Sums::new(alloc, field, basis.len())?;
     let mut numbers = Numbers {
         columns: Vec::new(alloc),
@@ -389,6 +457,7 @@ pub(crate) fn block_forms(
             braid,
             key,
             rules.as_slice(),
+            sent.as_slice(),
             listed,
             k,
             places,

@@ -1,8 +1,6 @@
 //! The rules of the lower blocks of a block, by letter.
 
 ghost use Rattle.std.specs.Prelude.{◌≡◌, ◌<◌, ◌-◌, ℕ, None, [], IfOk, MatchOption, length, slice_index, slice_index_or};
-ghost use Rattle.std.specs.List.{Contains};
-ghost use Rattle.nichols_tensor.specs.Positions.{word_at};
 ghost use Rattle.nichols_tensor.specs.WordOrder.{IsRising};
 ghost use Rattle.nichols_braid.specs.Braid.{IsLetter};
 ghost use Rattle.nichols_braid.specs.Product.{product_before};
@@ -12,11 +10,11 @@ ghost use Rattle.nichols_value.specs.Block.{left_lower_basis, lower_basis};
 ghost use Rattle.nichols_value.specs.Rule.{rule_of};
 ghost use Rattle.nichols_value.specs.Worth.{worth};
 ghost use Rattle.nichols_value.specs.declared.value.BlockValue.TheVariants.{Rule};
-ghost use Rattle.nichols_block.specs.Below.{AreFewBelow, IsNoRule};
+ghost use Rattle.nichols_block.specs.Below.{AreFewBelow, AreSent, IsNoRule};
 ghost use Rattle.nichols_block.specs.Lower.{AreLowerRules, IsUpperBlock};
 
 use nichols_braid::Braid;
-use nichols_value::{BlockKey, BlockRule, BlockValue, LowerValue, place_of};
+use nichols_value::{BlockKey, BlockRule, BlockValue, LowerValue};
 use nichols_words::Word;
 use std::alloc::{AllocError, Global};
 
@@ -92,19 +90,6 @@ pub(crate) fn words_below<'t>(
     }
 }
 
-/// The place of a word among those of a lower block.
-pub(crate) fn place_in(words: &[Word], word: &Word) -> usize
-    requires rising { IsRising words.now }
-    requires there { Contains words.now word.now }
-    ensures below { result < length words.now }
-    ensures place { word_at words.now result ≡ word.now }
-{
-    match place_of(words, word) {
-        Some(k) => k,
-        None => unreachable!(),
-    }
-}
-
 /// The letter that the block's product sends to a letter. In front, this one makes of the words of the lower block by that one
 /// words of the block: the left lower block by a letter is the lower block by the letter that is sent to it.
 pub(crate) fn sent_to(braid: &Braid, key: &BlockKey, letter: u8) -> u8
@@ -122,6 +107,19 @@ pub(crate) fn sent_to(braid: &Braid, key: &BlockKey, letter: u8) -> u8
         }
     }
     braid.letters()
+}
+
+/// By letter, from letter 1 on, the letter that is sent to it.
+pub(crate) fn all_sent(alloc: Global, braid: &Braid, key: &BlockKey) -> Result<Vec<u8>, AllocError>
+    requires block { IsUpperBlock braid.now key.now }
+    ensures { IfOk result (λ r. AreSent braid.now key.now.degree key.now.product r.items) }
+{
+    let _field = braid.field();
+    let mut sent = Vec::new(alloc);
+    for a in 0..braid.letters() {
+        sent.push(sent_to(braid, key, a + 1))?;
+    }
+    Ok(sent)
 }
 
 /// The least words v for which `a v` has the block's product, a being the letter.

@@ -6,7 +6,7 @@ ghost use Rattle.nichols_value.specs.Rule.{rule_of};
 
 use crate::empty::{empty_rows_by_letter, no_words};
 use nichols_braid::{Braid, Product};
-use nichols_value::{BlockKey, BlockRule, Words};
+use nichols_value::{BlockKey, BlockRule, Ends, Words};
 use nichols_words::Word;
 use std::alloc::{AllocError, Global};
 
@@ -28,5 +28,16 @@ pub(crate) fn lowest_rule(alloc: Global, braid: &Braid) -> Result<BlockRule, All
     let right = empty_rows_by_letter(alloc, letters, 0)?;
     let derivs = empty_rows_by_letter(alloc, letters, 1)?;
     let left = empty_rows_by_letter(alloc, letters, 0)?;
-    Ok(BlockRule::new(key, basis, below, right, Vec::new(alloc), derivs, left))
+    let mut ends = Vec::new(alloc);
+    ends.push(Ends { front: 0, back: 0 })?;
+    Ok(BlockRule::new(
+        key,
+        basis,
+        below,
+        right,
+        Vec::new(alloc),
+        derivs,
+        left,
+        ends,
+    ))
 }

@@ -1,23 +1,25 @@
 //! The rule of a block, from those of the blocks below it.
 
-ghost use Rattle.std.specs.Prelude.{◌≡◌, IfOk, map};
+ghost use Rattle.std.specs.Prelude.{◌≡◌, IfOk, length, map};
 ghost use Rattle.nichols_tensor.specs.Words.{up_to};
 ghost use Rattle.nichols_braid.specs.Braid.{IsLetter};
-ghost use Rattle.nichols_value.specs.Block.{lower_basis};
+ghost use Rattle.nichols_rows.specs.Places.{independent_in};
+ghost use Rattle.nichols_value.specs.Block.{block_basis, lower_basis};
 ghost use Rattle.nichols_value.specs.Rule.{rule_of};
 ghost use Rattle.nichols_block.specs.Lower.{AreLowerRules, IsUpperBlock};
 ghost use Rattle.nichols_block.specs.Places.{ArePlacesOf};
 ghost use Rattle.nichols_block.specs.Rows.{AreLeastDerivatives, AreNewDerivatives};
+ghost use Rattle.nichols_block.specs.Words.{ends_of};
 
 use crate::derivatives::derivative_rows;
 use crate::forms::{BlockForms, block_forms};
 use crate::lower::rule_below;
 use crate::split::{least_rows, places_of};
-use crate::words::{listed_words, new_words};
+use crate::words::{NewWords, listed_words, new_words};
 use nichols_braid::Braid;
 use nichols_echelon::{Place, Rows};
 use nichols_rows::independent_words;
-use nichols_value::{BlockKey, BlockRule, LowerValue, Words};
+use nichols_value::{BlockKey, BlockRule, Ends, LowerValue, Words};
 use std::alloc::{AllocError, Global};
 
 /// The least words u for which `u b` has the block's product, b being the letter, shared with the lower block.
@@ -58,8 +60,8 @@ fn all_below(
     Ok(below)
 }
 
-/// By letter, the rows of the derivatives of the new words that are least.
-fn least_derivatives(
+/// By letter, copies of the rows of the derivatives of the new words that are least.
+fn copied_derivatives(
     alloc: Global,
     braid: &Braid,
     key: &BlockKey,
@@ -74,6 +76,45 @@ fn least_derivatives(
     let mut least = Vec::new(alloc);
     for own in derivs {
         least.push(least_rows(alloc, own, places)?)?;
+    }
+    Ok(least)
+}
+
+/// By letter, the rows of the derivatives of the new words that are least: all that were made, where so many words are least as are new.
+fn least_derivatives(
+    alloc: Global,
+    braid: &Braid,
+    key: &BlockKey,
+    derivs: Vec<Rows>,
+    places: &[Place],
+    least: usize,
+) -> Result<Vec<Rows>, AllocError>
+    requires block { IsUpperBlock braid.now key.now }
+    requires derivs { AreNewDerivatives braid.now key.now.degree key.now.product derivs.items }
+    requires places { ArePlacesOf braid.now key.now.degree key.now.product places.now }
+    requires least { least ≡ length (block_basis braid.now key.now.degree key.now.product) }
+    ensures { IfOk result (λ r. AreLeastDerivatives braid.now key.now.degree key.now.product r.items) }
+{
+    if least == places.len() {
+        return Ok(derivs);
+    }
+    copied_derivatives(alloc, braid, key, derivs.as_slice(), places)
+}
+
+/// Where the new words that are least stand below without their end letters.
+fn least_ends(alloc: Global, new: &NewWords, places: &[Place]) -> Result<Vec<Ends>, AllocError>
+    requires places { length places.now ≡ length new.now.spots.items }
+    requires backs { length new.now.backs.items ≡ length new.now.spots.items }
+    ensures { IfOk result (λ r. r.items ≡ independent_in (ends_of new.now.spots.items new.now.backs.items) places.now) }
+{
+    let mut least = Vec::new(alloc);
+    for (k, place) in places.iter().enumerate() {
+        if let Place::Independent = place {
+            least.push(Ends {
+                front: new.spots[k].place,
+                back: new.backs[k],
+            })?;
+        }
     }
     Ok(least)
 }
@@ -93,9 +134,9 @@ pub(crate) fn block_rule(
     let _field = braid.field();
     let listed = listed_words(alloc, braid, key, lower)?;
     let new = new_words(alloc, braid, key, listed.as_slice())?;
-    let derived = derivative_rows(alloc, braid, key, lower, new.as_slice())?;
+    let derived = derivative_rows(alloc, braid, key, lower, new.spots.as_slice())?;
     let places = places_of(alloc, braid, key, lower, derived.as_slice())?;
-    let least = independent_words(alloc, new.as_slice(), places.as_slice())?;
+    let least = independent_words(alloc, new.words.as_slice(), places.as_slice())?;
     let forms = block_forms(
         alloc,
         braid,
@@ -105,9 +146,11 @@ pub(crate) fn block_rule(
         places.as_slice(),
         least.as_slice(),
     )?;
-    let derivs = least_derivatives(alloc, braid, key, derived.as_slice(), places.as_slice())?;
+    let count = least.len();
+    let derivs = least_derivatives(alloc, braid, key, derived, places.as_slice(), count)?;
+    let ends = least_ends(alloc, &new, places.as_slice())?;
     let below = all_below(alloc, braid, key, lower)?;
     let basis = Words::of(alloc, least)?;
     let BlockForms { right, left, spots } = forms;
-    Ok(BlockRule::new(*key, basis, below, right, spots, derivs, left))
+    Ok(BlockRule::new(*key, basis, below, right, spots, derivs, left, ends))
 }

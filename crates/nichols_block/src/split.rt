@@ -1,31 +1,37 @@
 //! Which new words of a block are least.
 
-ghost use Rattle.std.specs.Prelude.{◌≡◌, ◌<◌, ◌-◌, ◌^◌, ◌++◌, ◌∷◌, [], IfOk, OnOk, length};
-ghost use Rattle.nichols_echelon.specs.Cells.{AllBelow};
+ghost use Rattle.std.specs.Prelude.{◌≡◌, [], IfOk, length};
 ghost use Rattle.nichols_rows.specs.Places.{independent_in};
 ghost use Rattle.nichols_block.specs.Lower.{AreLowerRules, IsUpperBlock};
-ghost use Rattle.nichols_block.specs.NewRows.{AreNewRows, AreOffsets, joined_row, cells_behind};
+ghost use Rattle.nichols_block.specs.NewRows.{AreOffsets, columns_to};
 ghost use Rattle.nichols_block.specs.Places.{ArePlacesOf};
 ghost use Rattle.nichols_block.specs.Rows.{AreNewDerivatives};
-ghost use Rattle.nichols_block.specs.Words.{block_new_words};
 
 use crate::MOST_PLACES;
 use crate::lower::words_below;
 use nichols_braid::Braid;
-use nichols_echelon::{Cell, Place, Rows, split_flat_rows};
+use nichols_echelon::{Place, Rows, split_parts};
 use nichols_value::{BlockKey, LowerValue};
 use std::alloc::{AllocError, Global};
 
-/// By letter, from letter 1 on, how many words the lower blocks by the letters before it have.
-fn offsets_of(
+/// By letter, from letter 1 on, how many words the lower blocks by the letters before it have, and how many all of them have.
+#[derive(Drop)]
+struct Columns {
+    offsets: Vec<u32>,
+    all: usize,
+}
+
+/// The columns of the rows of new words: the words of the lower blocks, one letter behind the other.
+fn columns_of(
     alloc: Global,
     braid: &Braid,
     key: &BlockKey,
     lower: &[LowerValue],
-) -> Result<Vec<u32>, AllocError>
+) -> Result<Columns, AllocError>
     requires block { IsUpperBlock braid.now key.now }
     requires lower { AreLowerRules braid.now key.now lower.now }
-    ensures { IfOk result (λ r. AreOffsets braid.now key.now.degree key.now.product r.items) }
+    ensures offsets { IfOk result (λ r. AreOffsets braid.now key.now.degree key.now.product r.offsets.items) }
+    ensures all { IfOk result (λ r. r.all ≡ columns_to braid.now key.now.degree key.now.product braid.now.letters) }
 {
     let mut offsets = Vec::new(alloc);
     let mut columns = 0;
@@ -36,65 +42,8 @@ fn offsets_of(
             return Err(AllocError);
         }
     }
-    Ok(offsets)
-}
-
-/// Puts cells behind those of the open row, with their columns behind so many others.
-fn push_shifted(rows: &mut Rows, offset: u32, cells: &[Cell]) -> Result<(), AllocError>
-    requires { AllBelow (2 ^ 32 - offset) cells.now }
-    ensures rows { rows.new.rows ≡ rows.old.rows }
-    ensures begun { OnOk result (rows.new.begun ≡ rows.old.begun ++ cells_behind offset cells.now) }
-{
-    for cell in cells {
-        rows.push_cell(Cell {
-            column: offset + cell.column,
-            coefficient: cell.coefficient,
-        })?;
-    }
-    Ok(())
-}
-
-/// Puts the row of a new word behind others: the cells of the normal forms of its derivatives, one letter behind the other.
-fn push_new_row(
-    braid: &Braid,
-    key: &BlockKey,
-    derivs: &[Rows],
-    offsets: &[u32],
-    k: usize,
-    rows: &mut Rows,
-) -> Result<(), AllocError>
-    requires block { IsUpperBlock braid.now key.now }
-    requires derivs { AreNewDerivatives braid.now key.now.degree key.now.product derivs.now }
-    requires offsets { AreOffsets braid.now key.now.degree key.now.product offsets.now }
-    requires place { k < length (block_new_words braid.now key.now.degree key.now.product) }
-    requires closed { rows.old.begun ≡ [] }
-    ensures { OnOk result (rows.new ≡ record { rows = rows.old.rows ++ joined_row braid.now key.now.degree key.now.product derivs.now k braid.now.letters ∷ []; begun = [] }) }
-{
-    for (a, own) in derivs.iter().enumerate() {
-        push_shifted(rows, offsets[a], own.row(k))?;
-    }
-    rows.close()
-}
-
-/// The rows of the new words.
-fn new_rows(
-    alloc: Global,
-    braid: &Braid,
-    key: &BlockKey,
-    derivs: &[Rows],
-    offsets: &[u32],
-) -> Result<Rows, AllocError>
-    requires block { IsUpperBlock braid.now key.now }
-    requires derivs { AreNewDerivatives braid.now key.now.degree key.now.product derivs.now }
-    requires offsets { AreOffsets braid.now key.now.degree key.now.product offsets.now }
-    ensures { IfOk result (λ r. AreNewRows braid.now key.now.degree key.now.product derivs.now r.rows) }
-{
-    let _field = braid.field();
-    let mut rows = Rows::new(alloc);
-    for k in 0..derivs[0].len() {
-        push_new_row(braid, key, derivs, offsets, k, &mut rows)?;
-    }
-    Ok(rows)
+    let all = columns;
+    Ok(Columns { offsets, all })
 }
 
 /// The places of the rows of the new words, from the normal forms of their derivatives by each letter.
@@ -115,12 +64,12 @@ pub(crate) fn places_of(
     ensures { IfOk result (λ places. ArePlacesOf braid.now key.now.degree key.now.product places.items) }
 {
     let field = braid.field();
-    let offsets = offsets_of(alloc, braid, key, lower)?;
-    let rows = new_rows(alloc, braid, key, derivs, offsets.as_slice())?;
-    if rows.len() > MOST_PLACES {
+    let Columns { offsets, all } = columns_of(alloc, braid, key, lower)?;
+    let count = derivs[0].len();
+    if count > MOST_PLACES {
         return Err(AllocError);
     }
-    split_flat_rows(alloc, field, &rows)
+    split_parts(alloc, field, derivs, offsets.as_slice(), count, all)
 }
 
 /// The rows whose places are independent.

@@ -1,6 +1,6 @@
 //! The words that a block has normal forms of.
 
-ghost use Rattle.std.specs.Prelude.{◌≡◌, ◌<◌, ◌++◌, ◌∷◌, IfOk, length, map};
+ghost use Rattle.std.specs.Prelude.{◌≡◌, ◌<◌, ◌++◌, ◌∷◌, IfOk, length};
 ghost use Rattle.std.specs.List.{AllByRecursion};
 ghost use Rattle.std.specs.List.Sorted.{IsPermutation, IsSortedByKey};
 ghost use Rattle.std.specs.Result.{OnOk};
@@ -9,11 +9,12 @@ ghost use Rattle.nichols_tensor.specs.WordOrder.{word_cmp};
 ghost use Rattle.nichols_tensor.specs.Words.{IsLetterOf};
 ghost use Rattle.nichols_block.specs.Lower.{AreLowerRules, IsUpperBlock};
 ghost use Rattle.nichols_block.specs.Gathered.{gathered_all, together, word_in};
-ghost use Rattle.nichols_block.specs.Words.{AreListed, block_new_words, left_entries, left_entry, right_entries, right_entry};
+ghost use Rattle.nichols_block.specs.Words.{AreListed, AreNewWords, IsListedEntry, block_new_words, entries_from, left_entries, left_entry, new_word, right_entries, right_entry};
 
+use crate::MOST_PLACES;
 use crate::lower::{left_words_below, words_below};
 use nichols_braid::Braid;
-use nichols_value::{BlockKey, LowerValue};
+use nichols_value::{BlockKey, LowerValue, Spot};
 use nichols_words::Word;
 use std::alloc::{AllocError, Global};
 
@@ -21,10 +22,18 @@ use std::alloc::{AllocError, Global};
 #[derive(Clone, Copy)]
 pub(crate) struct Listed {
     pub(crate) word: Word,
-    /// Whether it is least without its last letter.
-    pub(crate) right: bool,
-    /// Whether it is least without its first letter.
-    pub(crate) left: bool,
+    /// Its place in the lower block by its last letter, if it is least without that letter.
+    pub(crate) right: Option<u32>,
+    /// Its place in the left lower block by its first letter, if it is least without that letter.
+    pub(crate) left: Option<u32>,
+}
+
+/// The new words of a block, where each stands below, and its place in the left lower block by its first letter.
+#[derive(Drop)]
+pub(crate) struct NewWords {
+    pub(crate) words: Vec<Word>,
+    pub(crate) spots: Vec<Spot>,
+    pub(crate) backs: Vec<u32>,
 }
 
 /// The word with a letter in front.
@@ -45,14 +54,17 @@ fn preceded_by(word: &Word, letter: u8) -> Word
 fn put_followed(listed: &mut Vec<Listed>, words: &[Word], letter: u8) -> Result<(), AllocError>
     requires short { AllByRecursion (λ w. length w < WORD_LIMIT) words.now }
     requires letter { IsLetterOf LETTER_LIMIT letter }
-    ensures { OnOk result (listed.new.items ≡ listed.old.items ++ map (right_entry letter) words.now) }
+    ensures { OnOk result (listed.new.items ≡ listed.old.items ++ entries_from (right_entry letter) 0 words.now) }
 {
+    if words.len() > MOST_PLACES {
+        return Err(AllocError);
+    }
     listed.reserve(words.len())?;
-    for word in words {
+    for k in 0..words.len() {
         listed.push(Listed {
-            word: word.followed_by(letter),
-            right: true,
-            left: false,
+            word: words[k].followed_by(letter),
+            right: Some(k as u32),
+            left: None,
         })?;
     }
     Ok(())
@@ -62,14 +74,17 @@ fn put_followed(listed: &mut Vec<Listed>, words: &[Word], letter: u8) -> Result<
 fn put_preceded(listed: &mut Vec<Listed>, words: &[Word], letter: u8) -> Result<(), AllocError>
     requires short { AllByRecursion (λ w. length w < WORD_LIMIT) words.now }
     requires letter { IsLetterOf LETTER_LIMIT letter }
-    ensures { OnOk result (listed.new.items ≡ listed.old.items ++ map (left_entry letter) words.now) }
+    ensures { OnOk result (listed.new.items ≡ listed.old.items ++ entries_from (left_entry letter) 0 words.now) }
 {
+    if words.len() > MOST_PLACES {
+        return Err(AllocError);
+    }
     listed.reserve(words.len())?;
-    for word in words {
+    for k in 0..words.len() {
         listed.push(Listed {
-            word: preceded_by(word, letter),
-            right: false,
-            left: true,
+            word: preceded_by(&words[k], letter),
+            right: None,
+            left: Some(k as u32),
         })?;
     }
     Ok(())
@@ -127,8 +142,8 @@ fn together(last: Listed, entry: &Listed) -> Listed
 {
     Listed {
         word: last.word,
-        right: last.right || entry.right,
-        left: last.left || entry.left,
+        right: last.right.or(entry.right),
+        left: last.left.or(entry.left),
     }
 }
 
@@ -172,22 +187,53 @@ pub(crate) fn listed_words(
     Ok(listed)
 }
 
+/// Puts the word of an entry behind the new words, if it is least both ways.
+fn put_new(
+    braid: &Braid,
+    key: &BlockKey,
+    entry: &Listed,
+    new: &mut NewWords,
+) -> Result<(), AllocError>
+    requires block { IsUpperBlock braid.now key.now }
+    requires listed { IsListedEntry braid.now key.now.degree key.now.product entry.now }
+    requires old { AreNewWords braid.now key.now.degree key.now.product new.old.words.items new.old.spots.items new.old.backs.items }
+    ensures words { OnOk result (new.new.words.items ≡ new.old.words.items ++ new_word entry.now) }
+    ensures new { OnOk result (AreNewWords braid.now key.now.degree key.now.product new.new.words.items new.new.spots.items new.new.backs.items) }
+{
+    let _field = braid.field();
+    let _degree = key.degree;
+    let (Some(front), Some(back)) = (entry.right, entry.left) else {
+        return Ok(());
+    };
+    let letter = entry.word.letter(entry.word.len() - 1);
+    new.words.push(entry.word)?;
+    new.spots.push(Spot {
+        letter,
+        place: front,
+    })?;
+    new.backs.push(back)?;
+    Ok(())
+}
+
 /// The new words among them: those that are least both ways.
 pub(crate) fn new_words(
     alloc: Global,
     braid: &Braid,
     key: &BlockKey,
     listed: &[Listed],
-) -> Result<Vec<Word>, AllocError>
+) -> Result<NewWords, AllocError>
     requires block { IsUpperBlock braid.now key.now }
     requires listed { AreListed braid.now key.now.degree key.now.product listed.now }
-    ensures { IfOk result (λ r. r.items ≡ block_new_words braid.now key.now.degree key.now.product) }
+    ensures words { IfOk result (λ r. r.words.items ≡ block_new_words braid.now key.now.degree key.now.product) }
+    ensures new { IfOk result (λ r. AreNewWords braid.now key.now.degree key.now.product r.words.items r.spots.items r.backs.items) }
 {
-    let mut new = Vec::new(alloc);
+    let mut new = NewWords {
+        words: Vec::new(alloc),
+        spots: Vec::new(alloc),
+        backs: Vec::new(alloc),
+    };
     for entry in listed {
-        if entry.right && entry.left {
-            new.push(entry.word)?;
-        }
+        put_new(braid, key, entry, &mut new)?;
     }
     Ok(new)
 }

@@ -7,7 +7,7 @@ use Rattle.std.proofs.Math.Nat.{suc-mul}
 use Rattle.std.proofs.lemmas.List.{take_all}
 use Rattle.std.proofs.lemmas.Grind.{flat_map-append}
 use Rattle.std.proofs.lemmas.Bool.Decides.{nat_tests, Decides-eqb}
-use Rattle.nichols_field.specs.Field.{FieldValue, IsField, times}
+use Rattle.nichols_field.specs.Field.{FieldValue, IsField, times, parts_of}
 use Rattle.nichols_tensor.specs.Words.{up_to, IsLetterOf}
 use Rattle.nichols_tensor.specs.declared.TheConstants.{LETTER_LIMIT}
 use Rattle.nichols_braid.specs.Braid.{BraidValue, entry, act, scalar, IsBraid, IsRack}
@@ -21,7 +21,7 @@ use Rattle.nichols_braid.proofs.AsGiven.{letter_at, scalar_at}
 use Rattle.nichols_braid.proofs.FirstFault.{is_accepted}
 use Rattle.nichols_braid.proofs.FirstAnswers.{no_triple}
 use Rattle.nichols_braid.proofs.FirstPlaces.{no_pair}
-use Rattle.nichols_braid.proofs.GivenRows.{IsFaultless, square_fits, letter_passes, rack_is_table, cocycle_is_table}
+use Rattle.nichols_braid.proofs.GivenRows.{IsFaultless, square_fits, letter_passes, rack_is_table, cocycle_size}
 
 -- ---- a table is its rows, one after the other
 
@@ -39,10 +39,10 @@ rows_taken n xs (suc m) h =
     ∙ ap (λ k. take k xs) (sym more)
 
 -- the table is its entries at all letters
-is_flat : (n : ℕ) (xs : List ℕ) → length xs ≡ n * n → flat_map (λ i. map (entry n xs i) (up_to n)) (up_to n) ≡ xs
+pub is_flat : (n : ℕ) (xs : List ℕ) → length xs ≡ n * n → flat_map (λ i. map (entry n xs i) (up_to n)) (up_to n) ≡ xs
 is_flat n xs size = rows_taken n xs n (omega arith) ∙ take_all (n * n) xs (omega arith)
 
-same_rows : (f g : ℕ → List ℕ) (n : ℕ) → ((i : ℕ) → IsLetterOf n i → f i ≡ g i) → flat_map f (up_to n) ≡ flat_map g (up_to n)
+pub same_rows : (f g : ℕ → List ℕ) (n : ℕ) → ((i : ℕ) → IsLetterOf n i → f i ≡ g i) → flat_map f (up_to n) ≡ flat_map g (up_to n)
 same_rows f g zero h = refl
 same_rows f g (suc n) h =
     flat_map-append f (up_to n) (suc n ∷ [])
@@ -87,7 +87,7 @@ same_cocycle : (k : FieldValue) → IsField k → (rows : List (List ℤ)) (give
 same_cocycle k is rows given braid h =
     let n : ℕ = braid.letters in
     ap (λ m. given_cocycle k m given) h.letters.0
-    ∙ same_tables n (given_cocycle k n given) braid.cocycle (cocycle_is_table k is n given h.scalars).size h.lawful.cocycle_size
+    ∙ same_tables n (given_cocycle k n given) braid.cocycle (cocycle_size k n given h.scalars) h.lawful.cocycle_size
     (λ i j li lj. scalar_at k n given h.scalars i j li lj ∙ sym (h.cocycle i j li lj))
 
 same_parts : (k l : FieldValue) (n m : ℕ) (xs ys us vs : List ℕ) → k ≡ l → n ≡ m → xs ≡ ys → us ≡ vs → with_scalars k (record { letters = n; entries = xs }) us ≡ with_scalars l (record { letters = m; entries = ys }) vs
@@ -149,7 +149,7 @@ unfolding cocycle_fault
 is_lawful braid is = no_triple braid.letters (cocycle_fault_at braid) (λ i j k li lj lk.
     let left : ℕ = times braid.field (scalar braid i (act braid j k)) (scalar braid j k) in
     let right : ℕ = times braid.field (scalar braid (act braid i j) (act braid i k)) (scalar braid i k) in
-    ap (λ b. cond b None (Some (not_cocycle i j k left right))) ((Decides-eqb left right).1 (is.cocycle.law i j k li lj lk)))
+    ap (λ b. cond b None (Some (not_cocycle i j k (parts_of braid.field left) (parts_of braid.field right)))) ((Decides-eqb left right).1 (is.cocycle.law i j k li lj lk)))
 
 -- ---- the braid
 

@@ -1,6 +1,8 @@
 pub mod WorkedRows
 mod WorkedTwisted
 mod WorkedSides
+mod WorkedOrders
+mod WorkedLimits
 pub mod Search
 pub mod FirstAnswers
 pub mod FirstPlaces
@@ -62,6 +64,13 @@ pub mod NamedFaults
 pub mod Transposed
 pub mod OrderedPairs
 pub mod Numbered
-pub mod PointsTables
+pub mod Tabled
 pub mod PointsBraid
 pub mod PointsLaws
+pub mod OrderFaults
+pub mod Ranks
+pub mod Renamed
+pub mod OrderLaws
+pub mod OrderForms
+pub mod OrderProducts
+pub mod OrderPlaces

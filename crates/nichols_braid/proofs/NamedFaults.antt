@@ -8,7 +8,9 @@ use Rattle.std.specs.Cmp.Lexicographic.{slice_cmp}
 use Rattle.std.specs.declared.cmp.Ordering.TheVariants.{Less, Equal, Greater}
 use Rattle.std.proofs.lemmas.Bool.{cases_lt, eqb-false}
 use Rattle.std.proofs.lemmas.Bool.Decides.{nat_tests, Decides-eqb}
-use Rattle.nichols_field.specs.Field.{FieldValue, times}
+use Rattle.nichols_field.specs.Field.{FieldValue, times, element_of, parts_of}
+use Rattle.nichols_field.specs.Pairs.{Pair}
+use Rattle.nichols_field.proofs.Parts.{element_of_parts}
 use Rattle.nichols_tensor.specs.Words.{IsLetterOf}
 use Rattle.nichols_braid.specs.Braid.{BraidValue, act, scalar}
 use Rattle.nichols_braid.specs.FaultLaws.{IsFirstTriple}
@@ -106,7 +108,7 @@ kind_positive (not_cocycle i j k left right) = omega arith
 
 -- ---- tests with an answer
 
-wrong_by_test : {X : Type 0} (b : Bool) (x y : X) → cond b None (Some x) ≡ Some y → (b ≡ false) × (x ≡ y)
+pub wrong_by_test : {X : Type 0} (b : Bool) (x y : X) → cond b None (Some x) ≡ Some y → (b ≡ false) × (x ≡ y)
 wrong_by_test true x y e = cc
 wrong_by_test false x y e = (refl, cc)
 
@@ -142,11 +144,11 @@ search_count k rows given = record { found = found; missed = missed }
 
 -- ---- rows of one length
 
-record IsFirstWrongRow (n : ℕ) (rows : List (List ℤ)) (r : ℕ) : Type 0 where
+record IsFirstWrongRow {X : Type 0} (n : ℕ) (rows : List (List X)) (r : ℕ) : Type 0 where
   wrong : IsWrongRow n rows r
   before : (a : ℕ) → 1 ≤ a → a < r → row_fits n rows a ≡ true
 
-wrong_where_unfit : (n : ℕ) (rows : List (List ℤ)) (r : ℕ) → IsLetterOf (suc n) r → row_fits n rows r ≡ false → IsWrongRow n rows r
+wrong_where_unfit : {X : Type 0} (n : ℕ) (rows : List (List X)) (r : ℕ) → IsLetterOf (suc n) r → row_fits n rows r ≡ false → IsWrongRow n rows r
 wrong_where_unfit n rows r l e = at (nat_le r n) (nat_le r (length rows)) (nat_eq (length (row_at rows r)) n) (nat_lt (length rows) r) refl refl refl refl e
   where
     at : (a b c d : Bool) → nat_le r n ≡ a → nat_le r (length rows) ≡ b → nat_eq (length (row_at rows r)) n ≡ c → nat_lt (length rows) r ≡ d → cond a (b && c) d ≡ false → IsWrongRow n rows r
@@ -160,12 +162,12 @@ wrong_where_unfit n rows r l e = at (nat_le r n) (nat_le r (length rows)) (nat_e
         let last : r ≤ suc n = l.1 in
         inr (omega arith, omega arith)
 
-fits_not_wrong : (n : ℕ) (rows : List (List ℤ)) (r : ℕ) → row_fits n rows r ≡ true → IsWrongRow n rows r → ⊥
+fits_not_wrong : {X : Type 0} (n : ℕ) (rows : List (List X)) (r : ℕ) → row_fits n rows r ≡ true → IsWrongRow n rows r → ⊥
 fits_not_wrong n rows r fits (inl (l, inl less)) = let there : (r ≤ length rows) × (length (row_at rows r) ≡ n) = row_there n rows r fits l.1 in omega arith
 fits_not_wrong n rows r fits (inl (l, inr other)) = other (row_there n rows r fits l.1).1
 fits_not_wrong n rows r fits (inr (last, more)) = let less : length rows < r = no_row_above n rows r fits (omega arith) in omega arith
 
-first_wrong_row : (n : ℕ) (rows : List (List ℤ)) (r : ℕ) → wrong_row n rows ≡ Some r → IsFirstWrongRow n rows r
+first_wrong_row : {X : Type 0} (n : ℕ) (rows : List (List X)) (r : ℕ) → wrong_row n rows ≡ Some r → IsFirstWrongRow n rows r
 unfolding wrong_row
 first_wrong_row n rows r e =
     let (i, letter, answers, none) = first_letter (suc n) (λ r. cond (row_fits n rows r) None (Some r)) r e in
@@ -173,7 +175,7 @@ first_wrong_row n rows r e =
     subst (IsFirstWrongRow n rows) same
     (record { wrong = wrong_where_unfit n rows i letter wrong; before = λ a least less. let l : (1 ≤ i) × (i ≤ suc n) = letter in passes (row_fits n rows a) a (none a (least, omega arith) less) })
 
-no_wrong_row : (n : ℕ) (rows : List (List ℤ)) (r : ℕ) → wrong_row n rows ≡ None → IsWrongRow n rows r → ⊥
+no_wrong_row : {X : Type 0} (n : ℕ) (rows : List (List X)) (r : ℕ) → wrong_row n rows ≡ None → IsWrongRow n rows r → ⊥
 unfolding wrong_row
 no_wrong_row n rows r none wrong = fits_not_wrong n rows r (passes (row_fits n rows r) r (no_letter_answers (suc n) (λ r. cond (row_fits n rows r) None (Some r)) none r (inside wrong))) wrong
   where
@@ -181,7 +183,7 @@ no_wrong_row n rows r none wrong = fits_not_wrong n rows r (passes (row_fits n r
     inside (inl (l, h)) = (l.0, omega (arith, l.1))
     inside (inr (last, more)) = (omega arith, omega arith)
 
-wrong_row_positive : (n : ℕ) (rows : List (List ℤ)) (r : ℕ) → IsWrongRow n rows r → 1 ≤ r
+wrong_row_positive : {X : Type 0} (n : ℕ) (rows : List (List X)) (r : ℕ) → IsWrongRow n rows r → 1 ≤ r
 wrong_row_positive n rows r (inl (l, h)) = l.0
 wrong_row_positive n rows r (inr (last, more)) = omega arith
 
@@ -347,8 +349,8 @@ search_cocycle : (k : FieldValue) (rows : List (List ℤ)) (given : GivenScalars
 unfolding cocycle_fault
 search_cocycle k rows given = record { found = found; missed = missed }
   where
-    right : (i j l u v : ℕ) → cocycle_fault_at (given_tables k rows given) i j l ≡ None → Holds k rows given (not_cocycle i j l u v) → ⊥
-    right i j l u v none (li, lj, ll, first, second, other) = one_side _ _ u v (passes (nat_eq _ _) _ none) first second other
+    right : (i j l : ℕ) (u v : Pair) → cocycle_fault_at (given_tables k rows given) i j l ≡ None → Holds k rows given (not_cocycle i j l u v) → ⊥
+    right i j l u v none (li, lj, ll, first, second, other) = other (sym first ∙ ap (parts_of k) ((Decides-eqb _ _).0 (passes (nat_eq _ _) _ none)) ∙ second)
 
     least : (fault : TableFault) (p : IsFirstTriple (length rows) (cocycle_fault_at (given_tables k rows given)) fault) → (other : TableFault) → kind_of other ≡ 8 → Holds k rows given other → slice_cmp nat_cmp (place_of other) (p.i ∷ p.j ∷ p.k ∷ []) ≡ Less → ⊥
     least fault p (not_cocycle a b c u v) of_kind h earlier = right a b c u v (p.none a b c h.0 h.1 h.2 (less_triple a b c p.i p.j p.k earlier)) h
@@ -360,8 +362,8 @@ search_cocycle k rows given = record { found = found; missed = missed }
         let b : BraidValue = given_tables k rows given in
         let u : ℕ = times k (scalar b p.i (act b p.j p.k)) (scalar b p.j p.k) in
         let v : ℕ = times k (scalar b (act b p.i p.j) (act b p.i p.k)) (scalar b p.i p.k) in
-        let (wrong, same) = wrong_by_test (nat_eq u v) (not_cocycle p.i p.j p.k u v) fault p.answers in
-        subst (IsFound k rows given 8) same (record { holds = (p.first, p.second, p.third, refl, refl, eqb-false u v wrong); same = refl; least = least fault p })
+        let (wrong, same) = wrong_by_test (nat_eq u v) (not_cocycle p.i p.j p.k (parts_of k u) (parts_of k v)) fault p.answers in
+        subst (IsFound k rows given 8) same (record { holds = (p.first, p.second, p.third, refl, refl, λ e. eqb-false u v wrong (sym (element_of_parts k u) ∙ ap (element_of k) e ∙ element_of_parts k v)); same = refl; least = least fault p })
 
     missed : cocycle_fault (given_tables k rows given) ≡ None → (other : TableFault) → kind_of other ≡ 8 → Holds k rows given other → ⊥
     missed none (not_cocycle i j l u v) of_kind h = right i j l u v (no_triple_answers (length rows) (cocycle_fault_at (given_tables k rows given)) none i j l h.0 h.1 h.2) h

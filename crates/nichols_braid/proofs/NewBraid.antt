@@ -7,7 +7,7 @@ use Rattle.nichols_braid.specs.FaultAnswers.{table_fault_in, IsFaultOrMemory, Is
 use Rattle.nichols_braid.specs.Faults.{TableFault, rows_fault, bijection_fault, distributivity_fault, cocycle_shape_fault, zero_fault, cocycle_fault, braid_of}
 use Rattle.nichols_braid.specs.RackLaws.{law_fault}
 use Rattle.nichols_braid.specs.Tables.{RackEntries, with_scalars, IsCocycleTable}
-use Rattle.nichols_braid.specs.GivenScalars.{GivenScalars}
+use Rattle.nichols_braid.specs.GivenScalars.{GivenScalars, AreEntriesOf}
 use Rattle.nichols_braid.specs.GivenTables.{given_rack, given_cocycle, given_tables}
 use Rattle.nichols_braid.specs.declared.faults.BraidFault.{BraidFault}
 use Rattle.nichols_braid.specs.declared.rack_laws.RackLaw.TheVariants.{Bijective, Distributive}
@@ -100,11 +100,12 @@ pub record AreRead (k : FieldValue) (rows : List (List ℤ)) (given : GivenScala
   pub count : n ≡ length rows
   pub scalars : qs ≡ given_cocycle k n given
   pub places : cocycle_shape_fault n given ≡ None
+  pub entries : AreEntriesOf k given
 
 pub are_read : (k : FieldValue) (rows : List (List ℤ)) (given : GivenScalars) (t : RackEntries) (n : ℕ) (xs qs : List ℕ) (first second : Option BraidFault) → IsRead rows t → ◌≡◌ {A = RackEntries} (record { letters = n; entries = xs }) t →
-    IsFault first (law_fault t Bijective) → first ≡ None → IsFault second (law_fault t Distributive) → second ≡ None → qs ≡ given_cocycle k n given → cocycle_shape_fault n given ≡ None → AreRead k rows given t n qs
-are_read k rows given t n xs qs first second read e b none d still scalars places =
-    record { rack = is_rack rows t first second read b none d still; value = read.value; count = count_is rows n xs t e read.value; scalars = scalars; places = places }
+    IsFault first (law_fault t Bijective) → first ≡ None → IsFault second (law_fault t Distributive) → second ≡ None → qs ≡ given_cocycle k n given → cocycle_shape_fault n given ≡ None → AreEntriesOf k given → AreRead k rows given t n qs
+are_read k rows given t n xs qs first second read e b none d still scalars places entries =
+    record { rack = is_rack rows t first second read b none d still; value = read.value; count = count_is rows n xs t e read.value; scalars = scalars; places = places; entries = entries }
 
 no_places : (k : FieldValue) (rows : List (List ℤ)) (given : GivenScalars) (t : RackEntries) (n : ℕ) (qs : List ℕ) → AreRead k rows given t n qs → cocycle_shape_fault (length rows) given ≡ None
 no_places k rows given t n qs read = ap (λ m. cocycle_shape_fault m given) (sym read.count) ∙ read.places
@@ -113,7 +114,7 @@ tables_are : (k : FieldValue) (rows : List (List ℤ)) (given : GivenScalars) (t
 tables_are k rows given t n qs read = ap₂ (with_scalars k) read.value (read.scalars ∙ ap (λ m. given_cocycle k m given) read.count)
 
 given_is_table : (k : FieldValue) → IsField k → (rows : List (List ℤ)) (given : GivenScalars) (t : RackEntries) (n : ℕ) (qs : List ℕ) → AreRead k rows given t n qs → IsCocycleTable k (length rows) (given_cocycle k (length rows) given)
-given_is_table k is rows given t n qs read = cocycle_is_table k is (length rows) given (has_places (length rows) given (no_places k rows given t n qs read))
+given_is_table k is rows given t n qs read = cocycle_is_table k is (length rows) given read.entries (has_places (length rows) given (no_places k rows given t n qs read))
 
 pub scalars_are_table : (k : FieldValue) → IsField k → (rows : List (List ℤ)) (given : GivenScalars) (t : RackEntries) (n : ℕ) (qs : List ℕ) → AreRead k rows given t n qs → IsCocycleTable k t.letters qs
 scalars_are_table k is rows given t n qs read =

@@ -5,15 +5,16 @@ use Rattle.std.specs.Prelude.{pos}
 use Rattle.std.proofs.lemmas.List.{length-replicate}
 use Rattle.nichols_field.specs.Field.{FieldValue, IsField, IsElement, prime_field, times}
 use Rattle.nichols_field.proofs.OnNumerals.{field_on_numerals}
+use Rattle.nichols_field.proofs.Given.{prime_is_field}
 use Rattle.nichols_tensor.specs.Words.{IsLetterOf}
 use Rattle.nichols_tensor.specs.declared.TheConstants.{LETTER_LIMIT}
 use Rattle.nichols_braid.specs.Braid.{BraidValue, IsBraid, IsRack, IsCocycle, act, scalar}
 use Rattle.nichols_braid.specs.Points.{points_braid}
 use Rattle.nichols_braid.specs.PointsLaws.{IsTransposition}
 use Rattle.nichols_braid.specs.Transpositions.{Transposition, conjugate, transpositions, number_in}
-use Rattle.nichols_braid.proofs.Numbered.{at, number_of_entry, number_is_letter, entry_of_number, entry_is_there}
+use Rattle.nichols_braid.proofs.Numbered.{none, at, number_of_entry, number_is_letter, entry_of_number, entry_is_there}
 use Rattle.nichols_braid.proofs.OrderedPairs.{in_transpositions, from_transpositions, transpositions_rise}
-use Rattle.nichols_braid.proofs.PointsTables.{rows_length, entry_of_table, entry_of_constant}
+use Rattle.nichols_braid.proofs.Tabled.{rows_length, entry_of_rows, entry_of_constant}
 use Rattle.nichols_braid.proofs.Transposed.{conjugate_one_to_one, conjugates_distribute, conjugate_is_transposition}
 
 -- ---- the letters of k points
@@ -49,7 +50,7 @@ of_letter_one_to_one k i j l m e = sym (letter_for_of k i l) ∙ ap (number_in (
 
 pub act_is : (k i j : ℕ) → IsLetterOf (count k) i → IsLetterOf (count k) j → act (points_braid k) i j ≡ number_in (transpositions k) (conjugate (of_letter k i) (of_letter k j))
 unfolding points_braid
-act_is k i j l m = entry_of_table (λ s t. number_in (transpositions k) (conjugate s t)) (transpositions k) i j l m
+act_is k i j l m = entry_of_rows none (λ s t. number_in (transpositions k) (conjugate s t)) (count k) (transpositions k) i j refl l m
 
 conjugate_is : (k i j : ℕ) → IsLetterOf (count k) i → IsLetterOf (count k) j → IsTransposition k (conjugate (of_letter k i) (of_letter k j))
 conjugate_is k i j l m = conjugate_is_transposition k (of_letter k i) (of_letter k j) (of_letter_is k i l) (of_letter_is k j m)
@@ -101,10 +102,6 @@ hundred_is_element : IsElement (prime_field (pos 101)) 100
 unfolding field_on_numerals
 hundred_is_element = omega arith
 
-is_field : IsField (prime_field (pos 101))
-unfolding field_on_numerals
-is_field = refl
-
 pub points_cocycle : (k : ℕ) → IsCocycle (points_braid k)
 points_cocycle k = record {
   element = λ i j l m. subst (IsElement (points_braid k).field) (sym (scalar_is k i j (here i l) (here j m))) (subst (λ f. IsElement f 100) (sym (points_field k)) hundred_is_element);
@@ -129,7 +126,7 @@ cocycle_size k = length-replicate (count k * count k) 100
 
 pub is_braid_of_points : (k : ℕ) → 1 ≤ count k → count k ≤ LETTER_LIMIT → IsBraid (points_braid k)
 is_braid_of_points k least most = record {
-  field = subst IsField (sym (points_field k)) is_field;
+  field = subst IsField (sym (points_field k)) (prime_is_field (pos 101) refl);
   least = subst (λ n. 1 ≤ n) (sym (letters_are k)) least;
   most = subst (λ n. n ≤ LETTER_LIMIT) (sym (letters_are k)) most;
   rack_size = rack_size k;

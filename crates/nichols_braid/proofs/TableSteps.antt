@@ -1,8 +1,9 @@
 -- Tables as they are read, row by row and entry by entry.
-use Rattle.std.proofs.Common.{◌≡◌, ◌≢◌, ℕ, suc, ◌+◌, ◌-◌, ◌<◌, Bool, true, false, cond, List, [], ◌∷◌, ◌++◌, map, take, length, get_or, refl, sym, ◌∙◌, ap, ap₂, arith, Some, None, nat_eq, append_assoc, append-nil}
+use Rattle.std.proofs.Common.{◌≡◌, ◌≢◌, ℕ, suc, ◌+◌, ◌-◌, ◌<◌, Bool, true, false, cond, List, [], ◌∷◌, ◌++◌, map, take, length, get_or, refl, sym, ◌∙◌, ap, ap₂, arith, Some, None, nat_eq, append_assoc, append-nil, subst}
 use Rattle.std.specs.Prelude.{Option, ℤ, pos, is_some, slice_index_or, IfSome}
-use Rattle.std.specs.List.{flat_map}
+use Rattle.std.specs.List.{flat_map, AllByRecursion}
 use Rattle.std.proofs.Math.Seq.{take-suc}
+use Rattle.std.proofs.lemmas.List.Elements.{All-from_recursion}
 use Rattle.std.proofs.lemmas.List.{length-map, get_or-map, map-append}
 use Rattle.std.proofs.lemmas.Grind.{flat_map-append}
 use Rattle.std.proofs.lemmas.Bool.Decides.{Decides-eqb}
@@ -26,31 +27,31 @@ fault_handed_on e o p h k = if_some (table_fault_in e) o p h k
 
 -- ---- rows of the right length
 
-pub row_found : (n : ℕ) (rows : List (List ℤ)) (r : ℕ) (b : Bool) → r < n + 1 → first_answer (λ r. cond (row_fits n rows r) None (Some r)) (up_to r) ≡ None → b ≡ row_fits n rows (r + 1) → b ≡ false → Some (r + 1) ≡ wrong_row n rows
+pub row_found : {X : Type 0} (n : ℕ) (rows : List (List X)) (r : ℕ) (b : Bool) → r < n + 1 → first_answer (λ r. cond (row_fits n rows r) None (Some r)) (up_to r) ≡ None → b ≡ row_fits n rows (r + 1) → b ≡ false → Some (r + 1) ≡ wrong_row n rows
 unfolding wrong_row
 row_found n rows r b less before same e =
     let here : cond (row_fits n rows (r + 1)) None (Some (r + 1)) ≡ Some (r + 1) = ap (λ t. cond t None (Some (r + 1))) (sym same ∙ e) in
     sym (first_answer-found (λ r. cond (row_fits n rows r) None (Some r)) r (suc n) (omega arith) before (ap is_some here) ∙ here)
 
-pub row_passed : (n : ℕ) (rows : List (List ℤ)) (r : ℕ) (b : Bool) → first_answer (λ r. cond (row_fits n rows r) None (Some r)) (up_to r) ≡ None → b ≡ row_fits n rows (r + 1) → b ≡ true →
+pub row_passed : {X : Type 0} (n : ℕ) (rows : List (List X)) (r : ℕ) (b : Bool) → first_answer (λ r. cond (row_fits n rows r) None (Some r)) (up_to r) ≡ None → b ≡ row_fits n rows (r + 1) → b ≡ true →
     first_answer (λ r. cond (row_fits n rows r) None (Some r)) (up_to (r + 1)) ≡ None
 row_passed n rows r b before same e = first_answer-more (λ r. cond (row_fits n rows r) None (Some r)) r before (ap (λ t. cond t None (Some (r + 1))) (sym same ∙ e))
 
 -- ---- a row of a slice
 
 -- row i + 1 of the rows is what was read at i
-pub row_is : {X : Type 0} (vs : List X) (g : X → List ℤ) (v : X) (row : List ℤ) (i : ℕ) → i < length vs → v ≡ get_or vs i v → row ≡ g v → row_at (map g vs) (i + 1) ≡ row
+pub row_is : {X Y : Type 0} (vs : List X) (g : X → List Y) (v : X) (row : List Y) (i : ℕ) → i < length vs → v ≡ get_or vs i v → row ≡ g v → row_at (map g vs) (i + 1) ≡ row
 row_is vs g v row i less same e =
     ap (λ k. slice_index_or (map g vs) k []) (let h : i + 1 - 1 ≡ i = omega arith in h)
     ∙ get_or-map g vs i v [] less ∙ ap g (sym same) ∙ sym e
 
-pub row_has_letters : (n : ℕ) (rows : List (List ℤ)) (row : List ℤ) (i : ℕ) → i < n → wrong_row n rows ≡ None → row_at rows (i + 1) ≡ row → length row ≡ n
+pub row_has_letters : {X : Type 0} (n : ℕ) (rows : List (List X)) (row : List X) (i : ℕ) → i < n → wrong_row n rows ≡ None → row_at rows (i + 1) ≡ row → length row ≡ n
 row_has_letters n rows row i less none e = ap length (sym e) ∙ row_length n rows (is_square n rows none) (i + 1) (omega arith, omega arith)
 
-pub rows_step : {X : Type 0} (f : ℤ → ℕ) (vs : List X) (g : X → List ℤ) (v : X) (row : List ℤ) (i : ℕ) (out new : List ℕ) → i < length vs → v ≡ get_or vs i v → row ≡ g v →
+pub rows_step : {X Y : Type 0} (f : Y → ℕ) (vs : List X) (g : X → List Y) (v : X) (row : List Y) (i : ℕ) (out new : List ℕ) → i < length vs → v ≡ get_or vs i v → row ≡ g v →
     out ≡ flat_map (map f) (take i (map g vs)) → new ≡ out ++ map f row → new ≡ flat_map (map f) (take (i + 1) (map g vs))
-rows_step f vs g v row i out new less same e before here =
-    let rows : List (List ℤ) = map g vs in
+rows_step {Y = Y} f vs g v row i out new less same e before here =
+    let rows : List (List Y) = map g vs in
     let inside : i < length rows = omega (arith, length-map vs g) in
     let there : get_or rows i [] ≡ row = get_or-map g vs i v [] less ∙ ap g (sym same) ∙ sym e in
     here
@@ -60,14 +61,14 @@ rows_step f vs g v row i out new less same e before here =
     ∙ ap (flat_map (map f)) (sym (take-suc rows i [] inside))
     ∙ ap (λ k. flat_map (map f) (take k rows)) (let h : suc i ≡ i + 1 = omega arith in h)
 
-pub row_step : (f : ℤ → ℕ) (row : List ℤ) (j : ℕ) (start out new : List ℕ) (a : ℕ) → j < length row → out ≡ start ++ map f (take j row) → new ≡ out ++ a ∷ [] → a ≡ f (slice_index_or row j (pos 0)) →
+pub row_step : {X : Type 0} (none : X) (f : X → ℕ) (row : List X) (j : ℕ) (start out new : List ℕ) (a : ℕ) → j < length row → out ≡ start ++ map f (take j row) → new ≡ out ++ a ∷ [] → a ≡ f (slice_index_or row j none) →
     new ≡ start ++ map f (take (j + 1) row)
-row_step f row j start out new a less before here e =
+row_step none f row j start out new a less before here e =
     here
     ∙ ap₂ (λ xs x. xs ++ x ∷ []) before e
-    ∙ append_assoc start (map f (take j row)) (f (slice_index_or row j (pos 0)) ∷ [])
-    ∙ ap (λ ys. start ++ ys) (sym (map-append f (take j row) (slice_index_or row j (pos 0) ∷ [])))
-    ∙ ap (λ ys. start ++ map f ys) (sym (take-suc row j (pos 0) less))
+    ∙ append_assoc start (map f (take j row)) (f (slice_index_or row j none) ∷ [])
+    ∙ ap (λ ys. start ++ ys) (sym (map-append f (take j row) (slice_index_or row j none ∷ [])))
+    ∙ ap (λ ys. start ++ map f ys) (sym (take-suc row j none less))
     ∙ ap (λ k. start ++ map f (take k row)) (let h : suc j ≡ j + 1 = omega arith in h)
 
 -- ---- entries
@@ -117,3 +118,8 @@ zero_passed braid i j q same nonzero = at (nat_eq (scalar braid i j) 0) refl
     at : (b : Bool) → nat_eq (scalar braid i j) 0 ≡ b → cond b (Some (cocycle_zero i j)) None ≡ None
     at true e = absurd (nonzero (same ∙ (Decides-eqb (scalar braid i j) 0).0 e))
     at false e = refl
+
+-- what holds of each row holds of the row that was read at i
+pub row_of_all : {X Y : Type 0} (P : List Y → Type 0) (vs : List X) (g : X → List Y) (v : X) (row : List Y) (i : ℕ) → AllByRecursion P (map g vs) → i < length vs → v ≡ get_or vs i v → row ≡ g v → P row
+row_of_all P vs g v row i all less same e =
+    subst P (get_or-map g vs i v [] less ∙ ap g (sym same) ∙ sym e) (All-from_recursion P (map g vs) all i [] (omega (arith, less, length-map vs g)))

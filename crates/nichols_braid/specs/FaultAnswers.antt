@@ -1,6 +1,7 @@
 -- What an answer of `BraidFault` says of the tables.
 use Rattle.std.specs.Prelude.{◌≡◌, Option, None, Some, IfSome}
 use Rattle.std.specs.Option.{option_map}
+use Rattle.nichols_field.specs.Pairs.{pair}
 use Rattle.nichols_braid.specs.Faults.{TableFault, letters, rack_shape, rack_entry, not_bijective, not_distributive, cocycle_shape, cocycle_zero, not_cocycle}
 use Rattle.nichols_braid.specs.declared.faults.BraidFault.{BraidFault}
 use Rattle.nichols_braid.specs.declared.faults.BraidFault.TheVariants.{Letters, RackShape, RackEntry, NotBijective, NotDistributive, CocycleShape, CocycleZero, NotCocycle, Memory}
@@ -14,7 +15,7 @@ table_fault_in (NotBijective i j k v) = Some (not_bijective i j k v)
 table_fault_in (NotDistributive i j k left right) = Some (not_distributive i j k left right)
 table_fault_in (CocycleShape row) = Some (cocycle_shape row)
 table_fault_in (CocycleZero i j) = Some (cocycle_zero i j)
-table_fault_in (NotCocycle i j k left right) = Some (not_cocycle i j k left right)
+table_fault_in (NotCocycle i j k left right) = Some (not_cocycle i j k (pair left.low left.high) (pair right.low right.high))
 table_fault_in Memory = None
 
 -- the answer is want of memory, or the fault that there is

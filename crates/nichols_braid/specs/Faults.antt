@@ -2,7 +2,8 @@
 -- that they are, where there is no fault.
 use Rattle.std.specs.Prelude.{ℕ, suc, ◌&&◌, Bool, false, List, [], ◌∷◌, length, Option, None, Some, Result, Ok, Err, ℤ, pos, negsuc, if◌then◌else◌, nat_eq, nat_lt, nat_le}
 use Rattle.std.specs.Option.{option_or, option_map}
-use Rattle.nichols_field.specs.Field.{FieldValue, times}
+use Rattle.nichols_field.specs.Field.{FieldValue, times, parts_of}
+use Rattle.nichols_field.specs.Pairs.{Pair}
 use Rattle.nichols_tensor.specs.declared.TheConstants.{LETTER_LIMIT}
 use Rattle.nichols_tensor.specs.Words.{up_to}
 use Rattle.nichols_braid.specs.Braid.{BraidValue, act, scalar}
@@ -19,7 +20,7 @@ pub data TableFault : Type 0 where
   not_distributive : (i j k left right : ℕ) → TableFault
   cocycle_shape : (row : ℕ) → TableFault
   cocycle_zero : (i j : ℕ) → TableFault
-  not_cocycle : (i j k left right : ℕ) → TableFault
+  not_cocycle : (i j k : ℕ) (left right : Pair) → TableFault
 
 -- ---- searches
 
@@ -48,11 +49,11 @@ unfoldable pub letters_fault : List (List ℤ) → Option TableFault
 letters_fault rows = if nat_le 1 (length rows) && nat_le (length rows) LETTER_LIMIT then None else Some (letters (length rows))
 
 -- whether row r is as in n rows of n entries: there, with n entries, where r is at most n, and not there above
-abbrev pub row_fits : ℕ → List (List ℤ) → ℕ → Bool
+abbrev pub row_fits : {X : Type 0} → ℕ → List (List X) → ℕ → Bool
 row_fits n rows r = if nat_le r n then nat_le r (length rows) && nat_eq (length (row_at rows r)) n else nat_lt (length rows) r
 
 -- the least number of a row that is missing or has not n entries, or n + 1, where a row is surplus
-unfoldable pub wrong_row : ℕ → List (List ℤ) → Option ℕ
+unfoldable pub wrong_row : {X : Type 0} → ℕ → List (List X) → Option ℕ
 wrong_row n rows = first_answer (λ r. if row_fits n rows r then None else Some r) (up_to (suc n))
 
 -- the first row that has not as many entries as there are rows
@@ -101,7 +102,7 @@ distributivity_fault rack = first_triple rack.letters (distributivity_fault_at r
 
 -- the first row that is missing, surplus or has not n entries; one scalar for every place has no rows
 unfoldable pub cocycle_shape_fault : ℕ → GivenScalars → Option TableFault
-cocycle_shape_fault n (constant v) = None
+cocycle_shape_fault n (constant e) = None
 cocycle_shape_fault n (table rows) = option_map cocycle_shape (wrong_row n rows)
 
 -- the place i, j, where its scalar is 0
@@ -112,12 +113,12 @@ zero_fault_at braid i j = if nat_eq (scalar braid i j) 0 then Some (cocycle_zero
 unfoldable pub zero_fault : BraidValue → Option TableFault
 zero_fault braid = first_pair braid.letters (zero_fault_at braid)
 
--- `q(i, j ▷ k) q(j, k)` and `q(i ▷ j, i ▷ k) q(i, k)`, where they aren't one element
+-- the numbers of `q(i, j ▷ k) q(j, k)` and of `q(i ▷ j, i ▷ k) q(i, k)`, where they aren't one element
 abbrev pub cocycle_fault_at : BraidValue → ℕ → ℕ → ℕ → Option TableFault
 cocycle_fault_at braid i j k =
     let left : ℕ = times braid.field (scalar braid i (act braid j k)) (scalar braid j k) in
     let right : ℕ = times braid.field (scalar braid (act braid i j) (act braid i k)) (scalar braid i k) in
-    if nat_eq left right then None else Some (not_cocycle i j k left right)
+    if nat_eq left right then None else Some (not_cocycle i j k (parts_of braid.field left) (parts_of braid.field right))
 
 -- the first letters i, j, k with `q(i, j ▷ k) q(j, k)` other than `q(i ▷ j, i ▷ k) q(i, k)`
 unfoldable pub cocycle_fault : BraidValue → Option TableFault

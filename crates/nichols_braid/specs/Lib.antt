@@ -18,6 +18,7 @@ pub mod SideForms
 pub mod WholeForm
 pub mod Forms
 pub mod End
+pub mod GivenEntries
 pub mod GivenScalars
 pub mod GivenTables
 pub mod Tables
@@ -25,6 +26,8 @@ pub mod Faults
 pub mod FaultAnswers
 pub mod Transpositions
 pub mod Points
+pub mod Order
+pub mod OrderFields
 -- the statements of the laws, and their words
 pub mod LinearMap
 pub mod LinearTest
@@ -43,5 +46,8 @@ pub mod EndLaws
 pub mod FaultLaws
 pub mod TableLaws
 pub mod PointsLaws
+pub mod OrderLaws
+pub mod OrderForms
+pub mod OrderPlaces
 -- what this crate's own functions cite
 pub mod RackLaws

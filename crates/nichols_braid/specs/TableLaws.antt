@@ -5,23 +5,24 @@ use Rattle.std.specs.List.{AllByRecursion}
 use Rattle.std.specs.Ordering.{nat_cmp}
 use Rattle.std.specs.Cmp.Lexicographic.{slice_cmp}
 use Rattle.std.specs.declared.cmp.Ordering.TheVariants.{Less}
-use Rattle.nichols_field.specs.Field.{FieldValue, IsField, residue, times}
+use Rattle.nichols_field.specs.Field.{FieldValue, IsField, times, parts_of}
 use Rattle.nichols_tensor.specs.declared.TheConstants.{LETTER_LIMIT}
 use Rattle.nichols_tensor.specs.Words.{IsLetterOf}
 use Rattle.nichols_braid.specs.Braid.{BraidValue, IsBraid, IsLetter, act, scalar}
-use Rattle.nichols_braid.specs.GivenScalars.{GivenScalars, constant, table}
-use Rattle.nichols_braid.specs.GivenTables.{row_at, integer_at, given_integer, given_tables}
+use Rattle.nichols_braid.specs.GivenEntries.{given_element}
+use Rattle.nichols_braid.specs.GivenScalars.{GivenScalars, constant, table, AreEntriesOf}
+use Rattle.nichols_braid.specs.GivenTables.{row_at, integer_at, given_entry, given_tables}
 use Rattle.nichols_braid.specs.Faults.{TableFault, letters, rack_shape, rack_entry, not_bijective, not_distributive, cocycle_shape, cocycle_zero, not_cocycle, braid_of}
 
 -- ---- what is accepted
 
 -- n rows with n entries each
-abbrev pub IsSquare : ℕ → List (List ℤ) → Type 0
+abbrev pub IsSquare : {X : Type 0} → ℕ → List (List X) → Type 0
 IsSquare n rows = (length rows ≡ n) × AllByRecursion (λ row. length row ≡ n) rows
 
 -- one scalar for every place, or n rows with n entries each
 abbrev pub HasPlaces : ℕ → GivenScalars → Type 0
-HasPlaces n (constant v) = ⊤
+HasPlaces n (constant e) = ⊤
 HasPlaces n (table rows) = IsSquare n rows
 
 -- a braid over the field with a letter for each row, which has the given letters and scalars at their places
@@ -31,12 +32,12 @@ pub record IsAsGiven (field : FieldValue) (rows : List (List ℤ)) (given : Give
   pub letters : IsSquare braid.letters rows
   pub scalars : HasPlaces braid.letters given
   pub rack : (i j : ℕ) → IsLetter braid i → IsLetter braid j → pos (act braid i j) ≡ integer_at rows i j
-  pub cocycle : (i j : ℕ) → IsLetter braid i → IsLetter braid j → scalar braid i j ≡ residue field (given_integer given i j)
+  pub cocycle : (i j : ℕ) → IsLetter braid i → IsLetter braid j → scalar braid i j ≡ given_element field (given_entry given i j)
 
 -- what is accepted is a braid, over the given field, with the given letters and scalars
 abbrev pub AcceptedTablesAreBraids : Type 0
 AcceptedTablesAreBraids =
-    (field : FieldValue) → IsField field → (rows : List (List ℤ)) (given : GivenScalars) (braid : BraidValue) → braid_of field rows given ≡ Ok braid → IsAsGiven field rows given braid
+    (field : FieldValue) → IsField field → (rows : List (List ℤ)) (given : GivenScalars) → AreEntriesOf field given → (braid : BraidValue) → braid_of field rows given ≡ Ok braid → IsAsGiven field rows given braid
 
 -- a braid over the field that is as given is what is accepted
 abbrev pub BraidsAreAccepted : Type 0
@@ -46,12 +47,12 @@ BraidsAreAccepted =
 -- ---- what is named
 
 -- row r is missing from n rows of n entries or has not n entries, or it is surplus, after them
-abbrev pub IsWrongRow : ℕ → List (List ℤ) → ℕ → Type 0
+abbrev pub IsWrongRow : {X : Type 0} → ℕ → List (List X) → ℕ → Type 0
 IsWrongRow n rows r = (IsLetterOf n r × ((length rows < r) ⊎ (length (row_at rows r) ≢ n))) ⊎ ((r ≡ suc n) × (n < length rows))
 
 -- row r of scalars is wrong so; one scalar for every place has no rows
 abbrev pub IsWrongScalarRow : ℕ → GivenScalars → ℕ → Type 0
-IsWrongScalarRow n (constant v) r = ⊥
+IsWrongScalarRow n (constant e) r = ⊥
 IsWrongScalarRow n (table rows) r = IsWrongRow n rows r
 
 -- what a fault says is so
@@ -73,8 +74,8 @@ Holds field rows given (cocycle_zero i j) =
 Holds field rows given (not_cocycle i j k left right) =
     let braid : BraidValue = given_tables field rows given in
     IsLetter braid i × IsLetter braid j × IsLetter braid k
-    × (times field (scalar braid i (act braid j k)) (scalar braid j k) ≡ left)
-    × (times field (scalar braid (act braid i j) (act braid i k)) (scalar braid i k) ≡ right)
+    × (parts_of field (times field (scalar braid i (act braid j k)) (scalar braid j k)) ≡ left)
+    × (parts_of field (times field (scalar braid (act braid i j) (act braid i k)) (scalar braid i k)) ≡ right)
     × (left ≢ right)
 
 -- the kinds of fault in the order in which they are looked for

@@ -1,12 +1,13 @@
 //! Braids.
 
 mod points;
+mod ranks;
 
 ghost use Rattle.std.specs.Prelude.{◌≡◌, ◌≢◌, ◌∷◌, [], IfOk, IfSome, MatchResult, Ok, Err, map};
 ghost use Rattle.nichols_braid.specs.Braid.{IsBraid, IsLetter, act, scalar};
 ghost use Rattle.nichols_braid.specs.FaultAnswers.{table_fault_in};
 ghost use Rattle.nichols_braid.specs.Faults.{braid_of};
-ghost use Rattle.nichols_braid.specs.GivenScalars.{given_scalars};
+ghost use Rattle.nichols_braid.specs.GivenScalars.{AreEntriesOf, given_scalars};
 ghost use Rattle.nichols_braid.specs.Product.{product_of, unact};
 ghost use Rattle.nichols_braid.specs.Products.{leading};
 ghost use Rattle.nichols_field.specs.Field.{IsElement};
@@ -44,13 +45,15 @@ impl Model for Braid {
 impl Braid {
     /// The braid with these rows and scalars, or their first fault.
     ///
-    /// Row i of `rack` has the letter `i ▷ j` at place j, from 1; the scalars are taken as residues, a constant at every place.
+    /// Row i of `rack` has the letter `i ▷ j` at place j, from 1; the scalars are the elements that the
+    /// entries stand for, a constant at every place. A pair is taken only over a field with an extension.
     pub fn new(
         alloc: Global,
         field: Field,
         rack: &[Vec<i64>],
         scalars: &Scalars,
     ) -> Result<Braid, BraidFault>
+        requires { AreEntriesOf field (given_scalars scalars.now) }
         ensures { MatchResult result
             (λ b. braid_of field (map (λ row. row.items) rack.now) (given_scalars scalars.now) ≡ Ok b)
             (λ e. IfSome (table_fault_in e) (λ fault. braid_of field (map (λ row. row.items) rack.now) (given_scalars scalars.now) ≡ Err fault)) }

@@ -8,7 +8,7 @@ ghost use Rattle.nichols_braid.specs.FaultAnswers.{IsFault};
 ghost use Rattle.nichols_braid.specs.Faults.{first_answer, first_pair, zero_fault_at, zero_fault, cocycle_fault_at, cocycle_fault};
 ghost use Rattle.nichols_braid.specs.Tables.{IsCocycleTable, with_scalars};
 
-use crate::faults::BraidFault;
+use crate::faults::{BraidFault, Shown};
 use crate::tables::RackTable;
 use nichols_field::Field;
 
@@ -120,7 +120,7 @@ fn cocycle_fault_at(
     if left == right {
         None
     } else {
-        Some(BraidFault::NotCocycle(i, j, k, left, right))
+        Some(BraidFault::NotCocycle(i, j, k, Shown::of(field, left), Shown::of(field, right)))
     }
 }
 

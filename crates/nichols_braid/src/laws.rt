@@ -2,6 +2,7 @@
 
 pub mod left;
 pub mod new_words;
+pub mod order;
 pub mod points;
 pub mod products;
 

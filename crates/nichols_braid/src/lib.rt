@@ -3,8 +3,10 @@
 
 mod braid;
 mod cocycle_law;
+mod entry;
 mod faults;
 pub mod laws;
+mod order;
 mod product;
 mod products;
 mod rack_laws;
@@ -12,8 +14,10 @@ mod tables;
 mod transposition;
 
 pub use braid::Braid;
-pub use faults::BraidFault;
+pub use entry::Entry;
+pub use faults::{BraidFault, Shown};
 use nichols_tensor::WORD_LIMIT;
+pub use order::Order;
 pub use product::Product;
 pub use products::{Products, ProductsFault};
 pub use tables::Scalars;

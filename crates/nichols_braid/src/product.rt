@@ -12,7 +12,7 @@ use std::cmp::Ordering;
 use std::marker::Model;
 
 /// The images that are kept inline, one for each letter that a braid may have.
-const ROOM: usize = LETTER_LIMIT as usize;
+pub(crate) const ROOM: usize = LETTER_LIMIT as usize;
 
 /// The product of a word: the composite of its letters' maps, as the images of the letters from 1 on.
 ///

@@ -12,29 +12,16 @@ ghost use Rattle.nichols_braid.specs.Products.{each_once, products};
 use crate::{Braid, MOST_PRODUCTS, Product};
 use std::alloc::{AllocError, AllocFailed, Global};
 use std::collections::BTreeMap;
-use std::error::Error;
-use std::fmt;
 use std::marker::Model;
 
 /// Why the products of the next length aren't listed.
 #[derive(Clone, Copy, Debug, PartialEq, Eq)]
 pub enum ProductsFault {
-    /// There are more than [`MOST_PRODUCTS`] of them.
+    /// There are more than `MOST_PRODUCTS` of them.
     Wide,
     /// Want of memory.
     Memory,
 }
-
-impl fmt::Display for ProductsFault {
-    fn fmt<W: fmt::Write>(&self, f: &mut fmt::Formatter<W>) -> fmt::Result {
-        match self {
-            ProductsFault::Wide => write!(f, "more than {MOST_PRODUCTS} products"),
-            ProductsFault::Memory => write!(f, "out of memory"),
-        }
-    }
-}
-
-impl Error for ProductsFault {}
 
 impl From<AllocError> for ProductsFault {
     ghost from_gives = { λ _ fault. fault ≡ Memory };

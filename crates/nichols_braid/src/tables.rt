@@ -1,15 +1,16 @@
 //! The tables of a braid, read from rows of integers.
 
 ghost use Rattle.std.specs.Prelude.{◌≡◌, ◌≤◌, ◌++◌, true, false, IfOk, OnOk, MatchOption, MatchResult, map, length};
-ghost use Rattle.std.specs.List.{flat_map};
+ghost use Rattle.std.specs.List.{AllByRecursion, flat_map};
 ghost use Rattle.nichols_braid.specs.FaultAnswers.{IsFaultOrMemory};
 ghost use Rattle.nichols_braid.specs.Faults.{first_answer, rows_fault, rack_entry_fault, entry_fault_at, is_letter, row_fits, wrong_row, cocycle_shape_fault};
-ghost use Rattle.nichols_braid.specs.GivenScalars.{given_scalars};
+ghost use Rattle.nichols_braid.specs.GivenEntries.{IsEntryOf, given_element};
+ghost use Rattle.nichols_braid.specs.GivenScalars.{AreEntriesOf, given_scalars};
 ghost use Rattle.nichols_braid.specs.Tables.{image};
 ghost use Rattle.nichols_braid.specs.GivenTables.{letter_of, given_rack, given_cocycle};
-ghost use Rattle.nichols_field.specs.Field.{residue};
 ghost use Rattle.nichols_tensor.specs.Words.{IsLetterOf, up_to};
 
+use crate::entry::Entry;
 use crate::faults::BraidFault;
 use nichols_field::Field;
 use nichols_tensor::LETTER_LIMIT;
@@ -19,10 +20,10 @@ use std::marker::Model;
 /// The scalars of a braid, as they are given.
 #[derive(Debug, Drop)]
 pub enum Scalars {
-    /// One integer for every place.
-    Constant(i64),
+    /// One entry for every place.
+    Constant(Entry),
     /// Row i has `q(i, j)` at place j.
-    Table(Vec<Vec<i64>>),
+    Table(Vec<Vec<Entry>>),
 }
 
 /// A table of letters by letters, before the laws of a rack are known.
@@ -79,7 +80,7 @@ impl RackTable {
 
 /// The least number of a row that is missing or has not as many entries as there are letters, or that of a surplus row.
 #[tactic(auto, unfolding(crate::specs::Faults::wrong_row))]
-fn wrong_row(letters: u8, rows: &[Vec<i64>]) -> Option<usize>
+fn wrong_row<T: Drop>(letters: u8, rows: &[Vec<T>]) -> Option<usize>
     ensures { result ≡ wrong_row letters (map (λ row. row.items) rows.now) }
 {
     let n = usize::from(letters);
@@ -92,7 +93,7 @@ fn wrong_row(letters: u8, rows: &[Vec<i64>]) -> Option<usize>
 }
 
 /// Whether row r is as in n rows of n entries.
-fn row_fits(n: usize, rows: &[Vec<i64>], r: usize) -> bool
+fn row_fits<T: Drop>(n: usize, rows: &[Vec<T>], r: usize) -> bool
     requires { 1 ≤ r }
     ensures { result ≡ row_fits n (map (λ row. row.items) rows.now) r }
 {
@@ -136,7 +137,7 @@ fn push_letters(letters: u8, i: u8, row: &[i64], out: &mut Vec<u8>) -> Result<()
 }
 
 /// An integer as one of n letters.
-fn letter_of(letters: u8, v: i64) -> Option<u8>
+pub(crate) fn letter_of(letters: u8, v: i64) -> Option<u8>
     ensures { MatchOption result (is_letter letters v ≡ false) (λ a. (is_letter letters v ≡ true) × (a ≡ letter_of v)) }
 {
     if 1 <= v && v <= i64::from(letters) {
@@ -146,7 +147,7 @@ fn letter_of(letters: u8, v: i64) -> Option<u8>
     }
 }
 
-/// The table of the cocycle: one residue at every place, or those of as many rows as letters, with as many entries each.
+/// The table of the cocycle: one element at every place, or those of as many rows as letters, with as many entries each.
 #[tactic(auto, unfolding(crate::specs::Faults::cocycle_shape_fault))]
 pub(crate) fn cocycle_table(
     alloc: Global,
@@ -154,42 +155,57 @@ pub(crate) fn cocycle_table(
     letters: u8,
     scalars: &Scalars,
 ) -> Result<Vec<u32>, BraidFault>
+    requires { AreEntriesOf field (given_scalars scalars.now) }
     ensures value { IfOk result (λ v. v.items ≡ given_cocycle field letters (given_scalars scalars.now)) }
     ensures fault { MatchResult result
         (λ _. cocycle_shape_fault letters (given_scalars scalars.now) ≡ None)
         (λ e. IsFaultOrMemory e (cocycle_shape_fault letters (given_scalars scalars.now))) }
 {
     match scalars {
-        Scalars::Constant(v) => {
+        Scalars::Constant(entry) => {
             let n = usize::from(letters);
-            Ok(vec![in alloc; field.from_i64(*v); n * n]?)
+            Ok(vec![in alloc; given_element(field, *entry); n * n]?)
         }
         Scalars::Table(rows) => {
             if let Some(row) = wrong_row(letters, rows.as_slice()) {
                 return Err(BraidFault::CocycleShape(row));
             }
-            Ok(rows_residues(alloc, field, rows.as_slice())?)
+            Ok(rows_elements(alloc, field, rows.as_slice())?)
         }
     }
 }
 
-/// The residues of the rows, one row after the other.
-fn rows_residues(alloc: Global, field: Field, rows: &[Vec<i64>]) -> Result<Vec<u32>, AllocError>
-    ensures { IfOk result (λ v. v.items ≡ flat_map (map (residue field)) (map (λ row. row.items) rows.now)) }
+/// The elements of the rows, one row after the other.
+fn rows_elements(alloc: Global, field: Field, rows: &[Vec<Entry>]) -> Result<Vec<u32>, AllocError>
+    requires { AllByRecursion (AllByRecursion (IsEntryOf field)) (map (λ row. row.items) rows.now) }
+    ensures { IfOk result (λ v. v.items ≡ flat_map (map (given_element field)) (map (λ row. row.items) rows.now)) }
 {
     let mut out = Vec::new(alloc);
     for row in rows {
-        push_residues(field, row.as_slice(), &mut out)?;
+        push_elements(field, row.as_slice(), &mut out)?;
     }
     Ok(out)
 }
 
-/// Puts the residues of a row behind those of the rows before it.
-fn push_residues(field: Field, row: &[i64], out: &mut Vec<u32>) -> Result<(), AllocError>
-    ensures { OnOk result (out.new.items ≡ out.old.items ++ map (residue field) row.now) }
+/// Puts the elements of a row behind those of the rows before it.
+fn push_elements(field: Field, row: &[Entry], out: &mut Vec<u32>) -> Result<(), AllocError>
+    requires { AllByRecursion (IsEntryOf field) row.now }
+    ensures { OnOk result (out.new.items ≡ out.old.items ++ map (given_element field) row.now) }
 {
-    for v in row {
-        out.push(field.from_i64(*v))?;
+    for entry in row {
+        out.push(given_element(field, *entry))?;
     }
     Ok(())
+}
+
+/// The element that an entry stands for.
+#[tactic(auto, unfolding(crate::specs::GivenEntries::given_element))]
+fn given_element(field: Field, entry: Entry) -> u32
+    requires { IsEntryOf field entry }
+    ensures value { result ≡ given_element field entry }
+{
+    match entry {
+        Entry::Whole(v) => field.from_i64(v),
+        Entry::Pair(u, v) => field.joined(u, v),
+    }
 }

@@ -1,6 +1,12 @@
+mod limits;
+mod orders;
+mod pairs;
 mod points;
 
+ghost use Rattle.std.specs.List.{AllByRecursion};
 ghost use Rattle.std.specs.Prelude.{◌≡◌, IfOk};
+ghost use Rattle.nichols_braid.specs.GivenEntries.{IsEntryOf};
+ghost use Rattle.nichols_braid.specs.GivenScalars.{AreEntriesOf, given_scalars};
 ghost use Rattle.nichols_braid.specs.Products.{products};
 
 use super::*;
@@ -17,13 +23,35 @@ fn rows(alloc: Global, entries: &[&[i64]]) -> Result<Vec<Vec<i64>>, AllocError> 
     Ok(out)
 }
 
+/// Integers as entries.
+fn whole_row(alloc: Global, _field: Field, row: &[i64]) -> Result<Vec<Entry>, AllocError>
+    ensures { IfOk result (λ v. AllByRecursion (IsEntryOf _field) v.items) }
+{
+    let mut out = Vec::new(alloc);
+    for v in row {
+        out.push(Entry::Whole(*v))?;
+    }
+    Ok(out)
+}
+
+/// The scalars of rows of integers.
+fn whole_table(alloc: Global, field: Field, rows: &[&[i64]]) -> Result<Scalars, AllocError>
+    ensures { IfOk result (λ s. AreEntriesOf field (given_scalars s)) }
+{
+    let mut out = Vec::new(alloc);
+    for row in rows {
+        out.push(whole_row(alloc, field, row)?)?;
+    }
+    Ok(Scalars::Table(out))
+}
+
 const THREE: [&[i64]; 3] = [&[1, 3, 2], &[3, 2, 1], &[2, 1, 3]];
 
 /// The three transpositions over five elements, with scalars that differ.
 fn twisted(alloc: Global) -> Result<Braid, Fail> {
     let field = Field::new(5).map_err(|_| "no field")?;
     let rack = rows(alloc, &THREE)?;
-    let scalars = Scalars::Table(rows(alloc, &[&[3, 3, 3], &[1, 3, -1], &[1, -1, -2]])?);
+    let scalars = whole_table(alloc, field, &[&[3, 3, 3], &[1, 3, -1], &[1, -1, -2]])?;
     Ok(Braid::new(alloc, field, rack.as_slice(), &scalars).map_err(|_| "refused")?)
 }
 
@@ -88,9 +116,15 @@ fn one_letter_acts_on_another(rt: HostRuntime) -> Result<(), Fail> {
     Ok(())
 }
 
-/// The fault of rows with these scalars, over 101 elements.
-fn fault(alloc: Global, rack: &[&[i64]], scalars: &Scalars) -> Result<Option<BraidFault>, Fail> {
-    let field = Field::new(101).map_err(|_| "no field")?;
+/// The fault of rows with these scalars.
+fn fault(
+    alloc: Global,
+    field: Field,
+    rack: &[&[i64]],
+    scalars: &Scalars,
+) -> Result<Option<BraidFault>, Fail>
+    requires { AreEntriesOf field (given_scalars scalars.now) }
+{
     let rack = rows(alloc, rack)?;
     Ok(Braid::new(alloc, field, rack.as_slice(), scalars).err())
 }
@@ -128,50 +162,14 @@ fn racks_with_faults(rt: HostRuntime) -> Result<(), Fail> {
             Some(BraidFault::NotDistributive(2, 1, 1, 2, 1)),
         ),
     ];
+    let field = Field::new(101).map_err(|_| "no field")?;
     for (rack, want) in tables {
         assert_eq!(rt;
-            fault(alloc, rack, &Scalars::Constant(1))?,
+            fault(alloc, field, rack, &Scalars::Constant(Entry::Whole(1)))?,
             want,
             "of {} rows",
             rack.len()
         );
-    }
-    Ok(())
-}
-
-#[test]
-fn faults_say_what_is_wrong(rt: HostRuntime) -> Result<(), Fail> {
-    let texts = [
-        (BraidFault::Letters(25), "25 letters, and not 1 to 24"),
-        (
-            BraidFault::RackShape(2),
-            "row 2 has not as many entries as there are rows",
-        ),
-        (
-            BraidFault::RackEntry(2, 1, -3),
-            "-3 in row 2 and column 1 is no letter",
-        ),
-        (
-            BraidFault::NotBijective(3, 1, 2, 4),
-            "3 ▷ 1 and 3 ▷ 2 are 4",
-        ),
-        (
-            BraidFault::NotDistributive(2, 1, 3, 2, 1),
-            "2 ▷ (1 ▷ 3) is 2, and (2 ▷ 1) ▷ (2 ▷ 3) is 1",
-        ),
-        (
-            BraidFault::CocycleShape(4),
-            "row 4 of the scalars is missing, surplus or of a wrong length",
-        ),
-        (BraidFault::CocycleZero(1, 2), "q(1, 2) is 0"),
-        (
-            BraidFault::NotCocycle(1, 2, 3, 5, 7),
-            "q(1, 2 ▷ 3) q(2, 3) is 5, and q(1 ▷ 2, 1 ▷ 3) q(1, 3) is 7",
-        ),
-        (BraidFault::Memory, "out of memory"),
-    ];
-    for (fault, text) in texts {
-        assert_eq!(rt; format!(in rt.alloc(); "{fault}")?.as_str(), text);
     }
     Ok(())
 }
@@ -185,9 +183,20 @@ fn racks_of_too_many_letters(rt: HostRuntime) -> Result<(), Fail> {
     for _letter in 0..25 {
         rack.push(row.to_vec(alloc)?)?;
     }
-    let fault = Braid::new(alloc, field, rack.as_slice(), &Scalars::Constant(1)).err();
+    let fault = Braid::new(
+        alloc,
+        field,
+        rack.as_slice(),
+        &Scalars::Constant(Entry::Whole(1)),
+    )
+    .err();
     assert_eq!(rt; fault, Some(BraidFault::Letters(25)));
     Ok(())
+}
+
+/// A number below the modulus, as an element is shown.
+fn whole(low: u32) -> Shown {
+    Shown { low, high: 0 }
 }
 
 #[test]
@@ -212,17 +221,18 @@ fn cocycles_with_faults(rt: HostRuntime) -> Result<(), Fail> {
         ),
         (
             &[&[1, 2, 1], &[1, 1, 1], &[1, 1, 1]],
-            Some(BraidFault::NotCocycle(1, 3, 1, 2, 1)),
+            Some(BraidFault::NotCocycle(1, 3, 1, whole(2), whole(1))),
         ),
         (
             &[&[1, 1, 1], &[1, 1, 1], &[1, 1, 2]],
-            Some(BraidFault::NotCocycle(1, 2, 2, 1, 2)),
+            Some(BraidFault::NotCocycle(1, 2, 2, whole(1), whole(2))),
         ),
     ];
+    let field = Field::new(101).map_err(|_| "no field")?;
     for (cocycle, want) in tables {
-        let scalars = Scalars::Table(rows(alloc, cocycle)?);
+        let scalars = whole_table(alloc, field, cocycle)?;
         assert_eq!(rt;
-            fault(alloc, &THREE, &scalars)?,
+            fault(alloc, field, &THREE, &scalars)?,
             want,
             "of {} rows",
             cocycle.len()
@@ -239,9 +249,10 @@ fn constants_with_faults(rt: HostRuntime) -> Result<(), Fail> {
         (202, Some(BraidFault::CocycleZero(1, 1))),
         (0, Some(BraidFault::CocycleZero(1, 1))),
     ];
+    let field = Field::new(101).map_err(|_| "no field")?;
     for (scalar, want) in scalars {
         assert_eq!(rt;
-            fault(alloc, &TWO, &Scalars::Constant(scalar))?,
+            fault(alloc, field, &TWO, &Scalars::Constant(Entry::Whole(scalar)))?,
             want,
             "at {scalar}"
         );
@@ -252,10 +263,11 @@ fn constants_with_faults(rt: HostRuntime) -> Result<(), Fail> {
 #[test]
 fn earlier_faults_come_first(rt: HostRuntime) -> Result<(), Fail> {
     let alloc = rt.alloc();
+    let field = Field::new(101).map_err(|_| "no field")?;
     let scalars = Scalars::Table(Vec::new(alloc));
     let distributive = BraidFault::NotDistributive(2, 1, 1, 2, 1);
     assert_eq!(rt;
-        fault(alloc, &[&[1, 2], &[2, 1]], &scalars)?,
+        fault(alloc, field, &[&[1, 2], &[2, 1]], &scalars)?,
         Some(distributive)
     );
     Ok(())
@@ -276,7 +288,13 @@ fn of_degree(alloc: Global, braid: &Braid, m: u32) -> Result<Products, ProductsF
 fn signed(alloc: Global, rack: &[&[i64]]) -> Result<Braid, Fail> {
     let field = Field::new(101).map_err(|_| "no field")?;
     let rack = rows(alloc, rack)?;
-    Ok(Braid::new(alloc, field, rack.as_slice(), &Scalars::Constant(-1)).map_err(|_| "refused")?)
+    Ok(Braid::new(
+        alloc,
+        field,
+        rack.as_slice(),
+        &Scalars::Constant(Entry::Whole(-1)),
+    )
+    .map_err(|_| "refused")?)
 }
 
 /// Three letters that act alike, each by the cycle of 1, 2, 3.
@@ -306,6 +324,54 @@ fn products_stand_in_the_order_of_first_words(rt: HostRuntime) -> Result<(), Fai
             }
         }
     }
+    Ok(())
+}
+
+/// The three transpositions over 101 elements.
+const SIGNED: [(u8, u8, u32); 9] = [
+    (1, 1, 100),
+    (3, 1, 100),
+    (2, 1, 100),
+    (3, 2, 100),
+    (2, 2, 100),
+    (1, 2, 100),
+    (2, 3, 100),
+    (1, 3, 100),
+    (3, 3, 100),
+];
+
+#[test]
+fn copies_of_the_three_transpositions(rt: HostRuntime) -> Result<(), Fail> {
+    let alloc = rt.alloc();
+    let braid = signed(alloc, &THREE)?;
+    let copy = braid.copy(alloc)?;
+    assert_eq!(rt; copy.field().modulus(), 101);
+    assert_eq!(rt; entries(alloc, &copy)?.as_slice(), SIGNED.as_slice());
+    let counts: [usize; 4] = [1, 3, 3, 3];
+    for (degree, want) in counts.iter().enumerate() {
+        let listed = of_degree(alloc, &braid, degree as u32).map_err(|_| "no products")?;
+        let same = listed.copy(alloc)?;
+        assert_eq!(rt; same.len(), *want);
+        for k in 0..listed.len() {
+            assert_eq!(rt; same.find(listed.at(k)), Some(k));
+        }
+    }
+    Ok(())
+}
+
+#[test]
+fn threads_share_products_and_take_them(rt: HostRuntime) -> Result<(), Fail> {
+    let alloc = rt.alloc();
+    let braid = signed(alloc, &THREE)?;
+    let listed = of_degree(alloc, &braid, 1).map_err(|_| "no products")?;
+    let none = Product::identity(3);
+    let (there, here) = join(&rt, || listed.len(), || listed.find(&none));
+    assert_eq!(rt; there, 3);
+    assert_eq!(rt; here, None);
+    let order = Order::plain(3);
+    let (moved, letters) = join(&rt, move || listed.len(), move || order.list().len());
+    assert_eq!(rt; moved, 3);
+    assert_eq!(rt; letters, 3);
     Ok(())
 }
 
@@ -347,9 +413,13 @@ fn more_products_than_are_listed(rt: HostRuntime) -> Result<(), Fail> {
     let alloc = rt.alloc();
     let field = Field::new(101).map_err(|_| "no field")?;
     let rack = eight_groups(alloc)?;
-    let braid = Braid::new(alloc, field, rack.as_slice(), &Scalars::Constant(-1)).map_err(
-        |_| "refused",
-    )?;
+    let braid = Braid::new(
+        alloc,
+        field,
+        rack.as_slice(),
+        &Scalars::Constant(Entry::Whole(-1)),
+    )
+    .map_err(|_| "refused")?;
     let listed = of_degree(alloc, &braid, 3).map_err(|_| "no products")?;
     let copy = listed.copy(alloc)?;
     assert_eq!(rt; listed.len(), 1_872);

@@ -36,6 +36,10 @@ pub enum Task {
     Reduce(Options),
     /// The images of its expressions under the symmetrizer.
     Symmetrize,
+    /// The brief report of the algebra of its braid, and its table of products.
+    Table(Options),
+    /// The brief report of the algebra of its braid, and the quadratic cover.
+    Cover(Options),
 }
 
 /// What the words of a command line ask for.
@@ -110,6 +114,8 @@ fn named(name: &str, points: Option<&str>, options: Options) -> Option<Command>
         "algebra" => alone(points, Task::Algebra(options)),
         "reduce" => alone(points, Task::Reduce(options)),
         "symmetrize" => alone(points, Task::Symmetrize),
+        "table" => alone(points, Task::Table(options)),
+        "cover" => alone(points, Task::Cover(options)),
         "points" => of_points(points, options),
         _ => None,
     }

@@ -45,7 +45,7 @@ fn plain_lines(rt: HostRuntime) -> Result<(), Fail> {
         window: 1,
         brief: false,
     };
-    let lines: [(&[&str], Command); 16] = [
+    let lines: [(&[&str], Command); 18] = [
         (&["algebra"], algebra(DEFAULTS)),
         (&["algebra", "--degree", "4"], algebra(degree_4)),
         (&["algebra", "--degree=04"], algebra(degree_4)),
@@ -95,6 +95,14 @@ fn plain_lines(rt: HostRuntime) -> Result<(), Fail> {
             &["reduce", "--degree=4"],
             Command::OnDocument(Task::Reduce(degree_4)),
         ),
+        (
+            &["table", "--degree=4"],
+            Command::OnDocument(Task::Table(degree_4)),
+        ),
+        (
+            &["cover", "--degree=4"],
+            Command::OnDocument(Task::Cover(degree_4)),
+        ),
         (&["points", "3"], Command::Points(3, DEFAULTS)),
         (
             &["points", "--degree", "4", "07"],
@@ -125,7 +133,7 @@ fn plain_lines(rt: HostRuntime) -> Result<(), Fail> {
 }
 
 /// For each rule, lists of words that break it alone.
-const BROKEN: [&[&str]; 36] = [
+const BROKEN: [&[&str]; 38] = [
     &[],
     &["--brief"],
     &["--help"],
@@ -150,6 +158,8 @@ const BROKEN: [&[&str]; 36] = [
     &["points", "+3"],
     &["algebra", "3"],
     &["symmetrize", "3"],
+    &["table", "3"],
+    &["cover", "3"],
     &["algebra", "--degree", "+4"],
     &["algebra", "--degree", " 4"],
     &["algebra", "--degree", "0x4"],

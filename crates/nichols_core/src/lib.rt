@@ -15,6 +15,3 @@ pub use event::Event;
 pub use layout::Layout;
 pub use stage::Stage;
 pub use state::State;
-
-#[cfg(test)]
-mod tests;

@@ -1,2 +1,13 @@
-mod GroupLists
-mod WithinLimit
+pub mod Asked
+pub mod PickedValues
+pub mod WithinLimit
+pub mod OwedCounts
+pub mod Freed
+pub mod KeptLists
+pub mod TakenTasks
+pub mod KeptJoined
+pub mod WorkedHands
+pub mod SimpleWaves
+pub mod WholeWaves
+pub mod MadeLists
+pub mod Counted

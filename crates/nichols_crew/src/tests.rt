@@ -1,31 +1,17 @@
 use super::*;
-use nichols_block::{BlockValue, Levels};
-use nichols_braid::Products;
-use nichols_testing::{one_letter, word};
-use std::slice;
+use nichols_block::Shared;
 use std::test::Fail;
 
-/// Degree 1 of one letter has one block, whose basis is that letter, with any number of workers.
+/// What may move to another thread and be shared with it.
+fn may_cross_threads<T: Send + Sync + Drop>(_value: T) {}
+
+/// A check of the types alone: no thread is started.
 #[test]
-fn degree_of_one_letter(rt: HostRuntime) -> Result<(), Fail> {
-    let alloc = rt.alloc();
-    for workers in [1, 2, 16] {
-        let levels = Levels::start(alloc, one_letter(alloc)?)?;
-        let first = Products::first(alloc, levels.braid())?;
-        let next = first
-            .next(alloc, levels.braid())
-            .map_err(|_| "no products")?;
-        let values = wave(&rt, alloc, &levels, slice::from_ref(&next), 1_024, workers)?;
-        assert_eq!(rt; values.len(), 1);
-        for value in values.as_slice() {
-            match value.get() {
-                Some(BlockValue::Rule(rule)) => {
-                    assert!(rt; rule.basis() == [word("1")].as_slice());
-                    assert_eq!(rt; rule.relation_count(), 0);
-                }
-                _ => return Err("no rule".into()),
-            }
-        }
-    }
+fn gates_and_entries_may_cross_threads(_rt: HostRuntime) -> Result<(), Fail> {
+    may_cross_threads(OpenGate::new());
+    may_cross_threads(Made {
+        block: 0,
+        value: Shared::Starved,
+    });
     Ok(())
 }

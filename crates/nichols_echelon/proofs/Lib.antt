@@ -3,6 +3,8 @@ pub mod Entries
 pub mod Combinations
 pub mod Uniqueness
 pub mod RowLists
+pub mod CellsBehind
+pub mod JoinedRows
 pub mod Summing
 pub mod Draining
 pub mod Taking

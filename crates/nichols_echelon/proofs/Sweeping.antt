@@ -12,7 +12,7 @@ use Rattle.nichols_echelon.specs.Sweep.{IsSwept}
 use Rattle.nichols_echelon.proofs.Summing.{sum_is_element}
 use Rattle.nichols_echelon.proofs.Shapes.{all_push}
 use Rattle.nichols_echelon.proofs.Combinations.{combined_entry-nil, combined_entry-push}
-use Rattle.nichols_echelon.proofs.Kept.{nothing_behind, front_here, front_elsewhere, inverse_here}
+use Rattle.nichols_echelon.proofs.Kept.{nothing_behind, inverse_here}
 
 pub record Sweeping (k : FieldValue) (kept : List (List Cell)) (pivots : List (Option ℕ)) (position : ℕ) (initial : List ℕ) (steps : List Cell) (values : List ℕ) (end : ℕ) : Type 0 where
   pub value : (x : ℕ) → sum_at k initial x ≡ plus k (sum_at k values x) (combined_entry k kept steps x)
@@ -44,15 +44,18 @@ regrouped k a b d z h ea =
 module _ (k : FieldValue) (is : IsField k) (kept : List (List Cell)) (pivots : List (Option ℕ)) (position : ℕ) (initial : List ℕ) (steps : List Cell) (values : List ℕ) (end : ℕ)
     (s : Sweeping k kept pivots position initial steps values end) (taken : List ℕ) (cell : Cell) (t : IsTaken k values taken cell) where
   -- the sum that was taken out is put back
+  put_back : (next : List ℕ) → sum_at k next cell.column ≡ plus k (sum_at k taken cell.column) cell.coefficient → ((x : ℕ) → x ≢ cell.column → sum_at k next x ≡ sum_at k taken x) →
+      (x : ℕ) → sum_at k next x ≡ sum_at k values x
+  put_back next here elsewhere x =
+      elim (cases_eq x cell.column) [
+        | inl at ↦ ap (sum_at k next) at ∙ here ∙ ap (λ m. plus k m cell.coefficient) (t.gone cell.column (omega arith)) ∙ zero_plus k cell.coefficient t.element ∙ t.here ∙ ap (sum_at k values) (sym at)
+        | inr other ↦ elsewhere x other ∙ t.rest x other
+      ]
+
   pub sweep_free : (next : List ℕ) → pivot_at pivots cell.column ≡ None → sum_at k next cell.column ≡ plus k (sum_at k taken cell.column) cell.coefficient →
       ((x : ℕ) → x ≢ cell.column → sum_at k next x ≡ sum_at k taken x) → length next ≡ length values → IsSwept k kept pivots position initial next (Some cell) steps
   sweep_free next free here elsewhere width =
-      let back : sum_at k next cell.column ≡ cell.coefficient = here ∙ ap (λ m. plus k m cell.coefficient) (t.gone cell.column (omega arith)) ∙ zero_plus k cell.coefficient t.element in
-      let same : (x : ℕ) → sum_at k next x ≡ sum_at k values x =
-      λ x. elim (cases_eq x cell.column) [
-        | inl at ↦ ap (sum_at k next) at ∙ back ∙ t.here ∙ ap (sum_at k values) (sym at)
-        | inr other ↦ elsewhere x other ∙ t.rest x other
-      ] in
+      let same : (x : ℕ) → sum_at k next x ≡ sum_at k values x = put_back next here elsewhere in
       record {
         value = λ x. s.value x ∙ ap (λ m. plus k m (combined_entry k kept steps x)) (sym (same x));
         are_steps = s.are_steps;
@@ -61,30 +64,25 @@ module _ (k : FieldValue) (is : IsField k) (kept : List (List Cell)) (pivots : L
           nonzero = t.nonzero;
           element = t.element;
           inside = omega (arith, t.inside, width);
-          here = sym back;
+          here = t.here ∙ sym (same cell.column);
           behind = λ x h. same x ∙ t.behind x (omega (arith, h));
         };
       }
 
   module _ (i factor : ℕ) (claimed : pivot_at pivots cell.column ≡ Some i) (earlier : i < position) (p : IsPivot k (row_at kept i) factor cell.column) (elements : AllElements k (row_at kept i))
-      (next : List ℕ) (by : ℕ) (by_is : by ≡ times k cell.coefficient factor) (sum : (x : ℕ) → sum_at k next x ≡ plus k (sum_at k taken x) (times k by (entry k p.front x))) where
+      (back : List ℕ) (here : sum_at k back cell.column ≡ plus k (sum_at k taken cell.column) cell.coefficient) (elsewhere : (x : ℕ) → x ≢ cell.column → sum_at k back x ≡ sum_at k taken x)
+      (next : List ℕ) (by : ℕ) (by_is : by ≡ times k cell.coefficient factor) (sum : (x : ℕ) → sum_at k next x ≡ plus k (sum_at k back x) (times k by (entry k (row_at kept i) x))) where
     gone : plus k (sum_at k values cell.column) (times k by (entry k (row_at kept i) cell.column)) ≡ 0
     gone =
         ap₂ (λ v b. plus k v (times k b (entry k (row_at kept i) cell.column))) (sym t.here) by_is
         ∙ cancels k is cell.coefficient factor (entry k (row_at kept i) cell.column) t.element (inverse_here k is (row_at kept i) factor cell.column p elements)
 
-    at_end : sum_at k next cell.column ≡ 0
-    at_end =
-        sum cell.column ∙ ap₂ (λ a b. plus k a (times k by b)) (t.gone cell.column (omega arith)) (front_here k is (row_at kept i) factor cell.column p)
-        ∙ ap (plus k 0) (times_zero k by is) ∙ plus_zero k 0 (zero_is_element k is)
-
     -- the sums are those before and the multiple of the row
     next_is : (x : ℕ) → sum_at k next x ≡ plus k (sum_at k values x) (times k by (entry k (row_at kept i) x))
-    next_is x =
-        elim (cases_eq x cell.column) [
-          | inl here ↦ ap (sum_at k next) here ∙ at_end ∙ sym gone ∙ ap (λ y. plus k (sum_at k values y) (times k by (entry k (row_at kept i) y))) (sym here)
-          | inr other ↦ sum x ∙ ap₂ (λ a b. plus k a (times k by b)) (t.rest x other) (front_elsewhere k is (row_at kept i) factor cell.column p x (λ e. other (sym e)))
-        ]
+    next_is x = sum x ∙ ap (λ m. plus k m (times k by (entry k (row_at kept i) x))) (put_back back here elsewhere x)
+
+    at_end : sum_at k next cell.column ≡ 0
+    at_end = next_is cell.column ∙ gone
 
     next_zero : (x : ℕ) → cell.column ≤ x → sum_at k next x ≡ 0
     next_zero x from =

@@ -3,6 +3,7 @@ pub mod Cells
 pub mod Combination
 pub mod Split
 pub mod Rows
+pub mod Parts
 pub mod Sums
 -- what this crate's own functions cite
 pub mod Echelon

@@ -2,11 +2,8 @@
 
 ghost use Rattle.std.specs.Prelude.{◌≡◌, ◌≢◌, ◌<◌, ◌^◌, ◌++◌, ◌∷◌, [], Some, None, IfOk, OnOk, length, replicate, slice_set};
 ghost use Rattle.nichols_field.specs.Field.{IsElement, times, negative};
-ghost use Rattle.nichols_echelon.specs.Combination.{row_at};
-ghost use Rattle.nichols_echelon.specs.Echelon.{kept_row};
 
 use crate::flat::Rows;
-use crate::rows::Cell;
 use nichols_field::Field;
 use std::alloc::{AllocError, Global};
 
@@ -37,20 +34,6 @@ impl Echelon {
             factors: Vec::new(alloc),
             pivots,
         })
-    }
-
-    /// What is kept of a row.
-    pub(crate) fn kept<'a>(&'a self, rows: &'a Rows, position: usize) -> &'a [Cell]
-        requires seen { position < length self.now.left.rows }
-        requires inside { position < length rows.now.rows }
-        ensures { result.now ≡ kept_row (row_at rows.now.rows position) (row_at self.now.left.rows position) }
-    {
-        let left = self.left.row(position);
-        if left.is_empty() {
-            rows.row(position)
-        } else {
-            left
-        }
     }
 
     /// Notes the factor of the next row, and that it ends at a column.

@@ -4,8 +4,10 @@
 ghost use Rattle.std.specs.Prelude.{◌≡◌, ◌<◌, ◌≤◌, ◌^◌, IfOk, length};
 ghost use Rattle.nichols_echelon.specs.Cells.{IsRow, AllBelow};
 ghost use Rattle.nichols_echelon.specs.Combination.{AllRowsElements, AllRowsBelow, AreRows};
+ghost use Rattle.nichols_echelon.specs.Parts.{AreParts, joined_rows};
 ghost use Rattle.nichols_echelon.specs.Split.{IsSplit};
 
+use crate::parts::Parts;
 use nichols_field::Field;
 use std::alloc::{AllocError, Global};
 
@@ -13,6 +15,7 @@ mod echelon;
 mod flat;
 pub mod laws;
 mod numbering;
+mod parts;
 mod retrace;
 mod rows;
 mod split;
@@ -60,11 +63,53 @@ pub fn split_flat_rows(alloc: Global, field: Field, rows: &Rows) -> Result<Vec<P
     let _modulus = field.modulus();
     let width = width_of(rows);
     if width <= FEW + MORE_PER_ROW * rows.len() {
-        return split::split_narrow(alloc, field, rows, width);
+        return split_whole(alloc, field, rows, width);
     }
     let columns = numbering::occurring_columns(alloc, rows)?;
     let numbered = numbering::numbered_rows(alloc, columns.as_slice(), rows)?;
-    split::split_narrow(alloc, field, &numbered, columns.len())
+    split_whole(alloc, field, &numbered, columns.len())
+}
+
+/// The same where each column is below `width`.
+fn split_whole(
+    alloc: Global,
+    field: Field,
+    rows: &Rows,
+    width: usize,
+) -> Result<Vec<Place>, AllocError>
+    requires shape { AreRows rows.now.rows }
+    requires elements { AllRowsElements field rows.now.rows }
+    requires below { AllRowsBelow width rows.now.rows }
+    requires count { length rows.now.rows < 2 ^ 32 }
+    requires short { width ≤ 2 ^ 32 }
+    ensures { IfOk result (λ places. IsSplit field rows.now.rows places.items) }
+{
+    let parts = Parts::of(std::slice::from_ref(rows), &[0], rows.len());
+    split::split_narrow(alloc, field, &parts, width)
+}
+
+/// The same for rows in parts: the k-th row is the k-th rows of all lists, one behind the other, where the columns of each list
+/// stand behind as many others as its offset says. There are `count` rows, and each column, counted so, is below `width`.
+///
+/// No row is copied. Memory is taken in proportion to `width`, to the number of rows, and to the cells of what is left of them.
+pub fn split_parts(
+    alloc: Global,
+    field: Field,
+    lists: &[Rows],
+    offsets: &[u32],
+    count: usize,
+    width: usize,
+) -> Result<Vec<Place>, AllocError>
+    requires parts { AreParts lists.now offsets.now count }
+    requires shape { AreRows (joined_rows lists.now offsets.now count) }
+    requires elements { AllRowsElements field (joined_rows lists.now offsets.now count) }
+    requires below { AllRowsBelow width (joined_rows lists.now offsets.now count) }
+    requires count { count < 2 ^ 32 }
+    requires short { width ≤ 2 ^ 32 }
+    ensures { IfOk result (λ places. IsSplit field (joined_rows lists.now offsets.now count) places.items) }
+{
+    let rows = Parts::of(lists, offsets, count);
+    split::split_narrow(alloc, field, &rows, width)
 }
 
 /// The rows, one behind the other.
@@ -103,6 +148,3 @@ fn width_of(rows: &Rows) -> usize
     }
     width
 }
-
-#[cfg(test)]
-mod tests;

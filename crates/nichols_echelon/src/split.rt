@@ -1,15 +1,15 @@
 //! The elimination of the rows in turn.
 
-ghost use Rattle.std.specs.Prelude.{◌≡◌, ◌≢◌, ◌<◌, ◌≤◌, ◌^◌, ◌++◌, ◌∷◌, [], IfOk, MatchOption, List, Option, None, length};
+ghost use Rattle.std.specs.Prelude.{◌≡◌, ◌<◌, ◌≤◌, ◌^◌, ◌++◌, ◌∷◌, [], IfOk, IfSome, List, None, length};
 ghost use Rattle.nichols_echelon.specs.Cells.{Cell as PlainCell, AllBelow};
-ghost use Rattle.nichols_echelon.specs.Combination.{AllRowsElements, AllRowsBelow, AreRows};
+ghost use Rattle.nichols_echelon.specs.Combination.{AllRowsElements, AllRowsBelow, AreRows, row_at};
 ghost use Rattle.nichols_echelon.specs.Echelon.{pivot_at};
 ghost use Rattle.nichols_echelon.specs.NextRow.{Holds, IsNextRow};
 ghost use Rattle.nichols_echelon.specs.Split.{IsSplit};
 ghost use Rattle.nichols_echelon.specs.Sums.{IsZero};
 
 use crate::echelon::{Echelon, minus_inverse};
-use crate::flat::Rows;
+use crate::parts::Parts;
 use crate::retrace::retraced;
 use crate::rows::{Cell, Place, Row};
 use crate::sums::Sums;
@@ -17,16 +17,15 @@ use crate::sweep::{Remainder, swept};
 use nichols_field::Field;
 use std::alloc::{AllocError, Global};
 
-/// The last cell, if no kept row ends at its column.
-fn free_end(cells: &[Cell], pivots: &[Option<u32>]) -> Option<Cell>
-    requires { AllBelow (length pivots.now) cells.now }
-    ensures { MatchOption result
-        ((front : List PlainCell) (last : PlainCell) → cells.now ≡ front ++ last ∷ [] → pivot_at pivots.now last.column ≢ None)
-        (λ last. ((front : List PlainCell) × (cells.now ≡ front ++ last ∷ [])) × (pivot_at pivots.now last.column ≡ None)) }
+/// The last cell of a row, if no kept row ends at its column.
+fn free_end(rows: &Parts<'_>, position: usize, pivots: &[Option<u32>]) -> Option<Cell>
+    requires inside { position < length rows.now }
+    requires below { AllBelow (length pivots.now) (row_at rows.now position) }
+    ensures { IfSome result (λ last. ((front : List PlainCell) × (row_at rows.now position ≡ front ++ last ∷ [])) × (pivot_at pivots.now last.column ≡ None)) }
 {
-    let (last, _) = cells.split_last()?;
+    let last = rows.last(position)?;
     match pivots[last.column as usize] {
-        None => Some(*last),
+        None => Some(last),
         Some(_) => None,
     }
 }
@@ -35,35 +34,34 @@ fn free_end(cells: &[Cell], pivots: &[Option<u32>]) -> Option<Cell>
 fn next_place(
     alloc: Global,
     field: Field,
-    rows: &Rows,
+    rows: &Parts<'_>,
     position: usize,
     echelon: &mut Echelon,
     sums: &mut Sums,
     back: &mut Sums,
 ) -> Result<Place, AllocError>
-    requires shape { AreRows rows.now.rows }
-    requires elements { AllRowsElements field rows.now.rows }
-    requires below { AllRowsBelow (length echelon.old.pivots.items) rows.now.rows }
-    requires count { length rows.now.rows < 2 ^ 32 }
+    requires shape { AreRows rows.now }
+    requires elements { AllRowsElements field rows.now }
+    requires below { AllRowsBelow (length echelon.old.pivots.items) rows.now }
+    requires count { length rows.now < 2 ^ 32 }
     requires next { length echelon.old.left.rows ≡ position }
-    requires inside { position < length rows.now.rows }
-    requires echelon { Holds field rows.now.rows echelon.old }
+    requires inside { position < length rows.now }
+    requires echelon { Holds field rows.now echelon.old }
     requires begun { (echelon.old.left.begun ≡ []) × (echelon.old.steps.begun ≡ []) }
     requires zero { IsZero field sums.old × IsZero field back.old }
-    requires width { (length sums.old ≡ length echelon.old.pivots.items) × (length rows.now.rows ≤ length back.old) }
-    ensures settled { IfOk result (λ place. IsNextRow field rows.now.rows echelon.old echelon.new place) }
+    requires width { (length sums.old ≡ length echelon.old.pivots.items) × (length rows.now ≤ length back.old) }
+    ensures settled { IfOk result (λ place. IsNextRow field rows.now echelon.old echelon.new place) }
     ensures zero { IfOk result (λ _. IsZero field sums.new × IsZero field back.new) }
     ensures width { (length sums.new ≡ length sums.old) × (length back.new ≡ length back.old) }
 {
     let _modulus = field.modulus();
-    let row = rows.row(position);
-    if let Some(last) = free_end(row, echelon.pivots.as_slice()) {
+    if let Some(last) = free_end(rows, position, echelon.pivots.as_slice()) {
         echelon.left.close()?;
         echelon.steps.close()?;
         echelon.claim(minus_inverse(field, last.coefficient), last.column as usize)?;
         return Ok(Place::Independent);
     }
-    sums.add_scaled(field, 1, row);
+    rows.add(field, 1, position, sums);
     let Remainder { last, steps } = swept(alloc, field, rows, echelon, sums)?;
     match last {
         Some(last) => {
@@ -86,15 +84,15 @@ fn next_place(
 pub(crate) fn split_narrow(
     alloc: Global,
     field: Field,
-    rows: &Rows,
+    rows: &Parts<'_>,
     width: usize,
 ) -> Result<Vec<Place>, AllocError>
-    requires shape { AreRows rows.now.rows }
-    requires elements { AllRowsElements field rows.now.rows }
-    requires below { AllRowsBelow width rows.now.rows }
-    requires count { length rows.now.rows < 2 ^ 32 }
+    requires shape { AreRows rows.now }
+    requires elements { AllRowsElements field rows.now }
+    requires below { AllRowsBelow width rows.now }
+    requires count { length rows.now < 2 ^ 32 }
     requires short { width ≤ 2 ^ 32 }
-    ensures { IfOk result (λ places. IsSplit field rows.now.rows places.items) }
+    ensures { IfOk result (λ places. IsSplit field rows.now places.items) }
 {
     let _modulus = field.modulus();
     let mut sums = Sums::new(alloc, field, width)?;

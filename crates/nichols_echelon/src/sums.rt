@@ -3,6 +3,7 @@
 ghost use Rattle.std.specs.Prelude.{◌≡◌, ◌≢◌, ◌<◌, ◌≤◌, ◌+◌, ◌-◌, ◌^◌, ◌*◌, [], IfOk, OnOk, OnErr, MatchOption, List, ℕ, length, slice_index};
 ghost use Rattle.nichols_field.specs.Field.{IsElement, plus, times};
 ghost use Rattle.nichols_echelon.specs.Cells.{AllElements, AllBelow, entry};
+ghost use Rattle.nichols_echelon.specs.Parts.{cells_behind};
 ghost use Rattle.nichols_echelon.specs.Sums.{sum_at, with_entry, IsZero, IsMarked, IsSumRow, IsDrained, IsDraining, KeepsSums, OnlyClears, IsTaken, IsSameSums, IsZeroFrom};
 ghost use Rattle.std.specs.Int.{bit_at};
 
@@ -33,19 +34,26 @@ impl Model for Sums {
     ghost invariant = { λ s. IsMarked s.values.items s.marks.items };
 }
 
-/// Adds a multiple of a row to the sums.
+/// Adds a multiple of a row, behind so many columns, to the sums.
 #[inline]
-fn scatter(field: Field, by: u32, cells: &[Cell], values: &mut [u64], marks: &mut [u64])
+fn scatter(
+    field: Field,
+    by: u32,
+    offset: u32,
+    cells: &[Cell],
+    values: &mut [u64],
+    marks: &mut [u64],
+)
     requires factor { IsElement field by }
     requires elements { AllElements field cells.now }
-    requires below { AllBelow (length values.old) cells.now }
+    requires below { AllBelow (length values.old) (cells_behind offset cells.now) }
     requires marked { IsMarked values.old marks.old }
-    ensures value { (place : ℕ) → sum_at field values.new place ≡ plus field (sum_at field values.old place) (times field by (entry field cells.now place)) }
+    ensures value { (place : ℕ) → sum_at field values.new place ≡ plus field (sum_at field values.old place) (times field by (entry field (cells_behind offset cells.now) place)) }
     ensures marked { IsMarked values.new marks.new }
 {
     let _modulus = field.modulus();
     for cell in cells {
-        let place = cell.column as usize;
+        let place = offset as usize + cell.column as usize;
         values[place] = field.add_product_to(values[place], by, cell.coefficient);
         marks[place / WORD] |= 1 << (place % WORD);
     }
@@ -270,9 +278,22 @@ impl Sums {
         ensures value { (place : ℕ) → sum_at field self.new place ≡ plus field (sum_at field self.old place) (times field by (entry field cells.now place)) }
         ensures width { length self.new ≡ length self.old }
     {
+        self.add_behind(field, by, 0, cells);
+    }
+
+    /// Adds a multiple of a row whose columns stand behind so many others.
+    #[inline]
+    pub fn add_behind(&mut self, field: Field, by: u32, offset: u32, cells: &[Cell])
+        requires factor { IsElement field by }
+        requires elements { AllElements field cells.now }
+        requires below { AllBelow (length self.old) (cells_behind offset cells.now) }
+        ensures value { (place : ℕ) → sum_at field self.new place ≡ plus field (sum_at field self.old place) (times field by (entry field (cells_behind offset cells.now) place)) }
+        ensures width { length self.new ≡ length self.old }
+    {
         scatter(
             field,
             by,
+            offset,
             cells,
             self.values.as_mut_slice(),
             self.marks.as_mut_slice(),

@@ -1,15 +1,16 @@
 //! The sweep over a row, from its last column down.
 
-ghost use Rattle.std.specs.Prelude.{◌≡◌, ◌<◌, ◌++◌, ◌∷◌, [], IfOk, List, ℕ, length};
+ghost use Rattle.std.specs.Prelude.{◌≡◌, ◌<◌, IfOk, ℕ, length};
 ghost use Rattle.nichols_field.specs.Field.{IsElement, plus, times};
-ghost use Rattle.nichols_echelon.specs.Cells.{Cell as PlainCell, AllElements, AllBelow, entry};
-ghost use Rattle.nichols_echelon.specs.Echelon.{kept_rows};
+ghost use Rattle.nichols_echelon.specs.Cells.{AllElements, AllBelow, entry};
+ghost use Rattle.nichols_echelon.specs.Combination.{row_at};
+ghost use Rattle.nichols_echelon.specs.Echelon.{kept_row, kept_rows};
 ghost use Rattle.nichols_echelon.specs.NextRow.{Holds};
 ghost use Rattle.nichols_echelon.specs.Sums.{sum_at};
 ghost use Rattle.nichols_echelon.specs.Sweep.{IsSwept};
 
 use crate::echelon::Echelon;
-use crate::flat::Rows;
+use crate::parts::Parts;
 use crate::rows::Cell;
 use crate::sums::Sums;
 use nichols_field::Field;
@@ -23,17 +24,29 @@ pub(crate) struct Remainder {
     pub(crate) steps: Vec<Cell>,
 }
 
-/// Adds a multiple of a row without its last cell.
+/// Adds a multiple of what is kept of a row.
 #[inline]
-fn add_front(field: Field, by: u32, cells: &[Cell], sums: &mut Sums)
+fn add_kept(
+    field: Field,
+    by: u32,
+    rows: &Parts<'_>,
+    echelon: &Echelon,
+    position: usize,
+    sums: &mut Sums,
+)
     requires factor { IsElement field by }
-    requires elements { AllElements field cells.now }
-    requires below { AllBelow (length sums.old) cells.now }
-    ensures value { (front : List PlainCell) (last : PlainCell) → cells.now ≡ front ++ last ∷ [] → (column : ℕ) → sum_at field sums.new column ≡ plus field (sum_at field sums.old column) (times field by (entry field front column)) }
+    requires seen { position < length echelon.now.left.rows }
+    requires inside { position < length rows.now }
+    requires elements { AllElements field (kept_row (row_at rows.now position) (row_at echelon.now.left.rows position)) }
+    requires below { AllBelow (length sums.old) (kept_row (row_at rows.now position) (row_at echelon.now.left.rows position)) }
+    ensures value { (column : ℕ) → sum_at field sums.new column ≡ plus field (sum_at field sums.old column) (times field by (entry field (kept_row (row_at rows.now position) (row_at echelon.now.left.rows position)) column)) }
     ensures width { length sums.new ≡ length sums.old }
 {
-    if let Some((_, front)) = cells.split_last() {
-        sums.add_scaled(field, by, front);
+    let left = echelon.left.row(position);
+    if left.is_empty() {
+        rows.add(field, by, position, sums);
+    } else {
+        sums.add_scaled(field, by, left);
     }
 }
 
@@ -44,13 +57,13 @@ fn add_front(field: Field, by: u32, cells: &[Cell], sums: &mut Sums)
 pub(crate) fn swept(
     alloc: Global,
     field: Field,
-    rows: &Rows,
+    rows: &Parts<'_>,
     echelon: &Echelon,
     sums: &mut Sums,
 ) -> Result<Remainder, AllocError>
-    requires echelon { Holds field rows.now.rows echelon.now }
+    requires echelon { Holds field rows.now echelon.now }
     requires width { length sums.old ≡ length echelon.now.pivots.items }
-    ensures swept { IfOk result (λ s. IsSwept field (kept_rows rows.now.rows echelon.now.left.rows) echelon.now.pivots.items (length echelon.now.left.rows) sums.old sums.new s.last s.steps.items) }
+    ensures swept { IfOk result (λ s. IsSwept field (kept_rows rows.now echelon.now.left.rows) echelon.now.pivots.items (length echelon.now.left.rows) sums.old sums.new s.last s.steps.items) }
     ensures width { length sums.new ≡ length sums.old }
 {
     let _modulus = field.modulus();
@@ -58,16 +71,16 @@ pub(crate) fn swept(
     let mut end = sums.width();
     while let Some(cell) = sums.take_last(field, end) {
         let column = cell.column as usize;
+        sums.put(field, column, cell.coefficient);
         match echelon.pivots[column] {
             None => {
-                sums.put(field, column, cell.coefficient);
                 let last = Some(cell);
                 return Ok(Remainder { last, steps });
             }
             Some(position) => {
                 let factor = echelon.factors[position as usize];
                 let by = field.mul(cell.coefficient, factor);
-                add_front(field, by, echelon.kept(rows, position as usize), sums);
+                add_kept(field, by, rows, echelon, position as usize, sums);
                 let coefficient = field.neg(by);
                 steps.push(Cell {
                     column: position,

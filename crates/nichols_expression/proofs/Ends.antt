@@ -6,12 +6,12 @@ use Rattle.nichols_field.specs.Field.{FieldValue, residue}
 use Rattle.nichols_tensor.specs.Combination.{Term}
 use Rattle.nichols_tensor.specs.declared.TheConstants.{WORD_LIMIT}
 use Rattle.nichols_expression.specs.declared.TheConstants.{NUMBER_LIMIT, TERM_LIMIT}
-use Rattle.nichols_expression.specs.Bytes.{space, star, dot, zero_digit, empty_byte, signed_term}
+use Rattle.nichols_expression.specs.Bytes.{space, star, dot, zero_digit, empty_byte, signed_term, comma, closing}
 use Rattle.nichols_expression.specs.declared.signs.Sign.{Sign}
 use Rattle.nichols_expression.specs.declared.signs.Sign.TheVariants.{Positive}
 use Rattle.nichols_expression.specs.declared.faults.Cause.{Cause}
 use Rattle.nichols_expression.specs.declared.faults.Cause.TheVariants.{Early, Byte, Letter, LongNumber, LongWord, Terms, Surplus}
-use Rattle.nichols_expression.specs.Reader.{Step, map_step, fault, run_at, past_run, past_spaces, is_letter_run, at_dot, after_dot, after_letter, past_letter, at_run, letters_at, word_by, word_at, with_coefficient, bare_word, term_after_number, by_star, past_first_run, term_by, term_at, sign_of, Read, put_first, after_term, past_term, with_term, terms_at, is_empty, signed_by, zero_or_terms, expression_at, read_terms}
+use Rattle.nichols_expression.specs.Reader.{Step, map_step, fault, run_at, past_run, past_spaces, is_letter_run, at_dot, after_dot, after_letter, past_letter, at_run, letters_at, word_by, word_at, with_coefficient, bare_word, term_after_number, by_star, past_first_run, term_by, term_at, sign_of, Read, put_first, after_term, past_term, with_term, terms_at, is_empty, signed_by, zero_or_terms, expression_at, read_terms, then_step, past_mark, mark_at, number_by, number_at, pair_element, second_at, pair_at, word_after, opens_pair, term_opened}
 
 -- what is left is an end of the text
 pub data IsEndOf (left : List ℕ) : List ℕ → Type 0 where
@@ -129,7 +129,53 @@ word_stops n (byte ∷ rest) = at (is_ascii_digit byte) (nat_eq byte empty_byte)
     at false true = later byte whole
     at false false = (whole, omega arith)
 
+-- ---- pairs of numbers
+
+then_stops : {X Y : Type 0} (text : List ℕ) (r : Step X) (next : X → List ℕ → Step Y) → ((x : X) (left : List ℕ) → StopsIn left (next x left)) → StopsIn text r → StopsIn text (then_step r next)
+then_stops text (Ok r) next further p = stops_later r.left text (next r.value r.left) p (further r.value r.left)
+then_stops text (Err e) next further p = p
+
+-- a step behind spaces
+spaced_stops : {X : Type 0} (text : List ℕ) (r : Step X) → StopsIn (past_spaces text) r → StopsIn text r
+spaced_stops text r p = stops_later (past_spaces text) text r (spaces_end text) p
+
+mark_stops : (mark : ℕ) (text : List ℕ) → StopsIn text (mark_at mark text)
+mark_stops mark [] = (whole, refl)
+mark_stops mark (byte ∷ rest) = at (nat_eq byte mark)
+  where
+    at : (b : Bool) → StopsIn (byte ∷ rest) (past_mark b byte rest)
+    at true = later byte whole
+    at false = (whole, omega arith)
+
+number_stops : (mark : ℕ) (text : List ℕ) → StopsIn text (number_at mark text)
+unfolding number_at
+number_stops mark [] = (whole, refl)
+number_stops mark (byte ∷ rest) = at (is_ascii_digit byte) (nat_le (length (run_at (byte ∷ rest))) NUMBER_LIMIT)
+  where
+    at : (d s : Bool) → StopsIn (byte ∷ rest) (number_by mark d s (byte ∷ rest))
+    at false s = (whole, omega arith)
+    at true false = (whole, omega arith)
+    at true true =
+        let run = past_run (byte ∷ rest) in
+        stops_later run (byte ∷ rest) (number_by mark true true (byte ∷ rest)) (run_end (byte ∷ rest))
+        (mapped_stops_in run (λ _. digits_value 10 (run_at (byte ∷ rest))) (mark_at mark (past_spaces run)) (spaced_stops run (mark_at mark (past_spaces run)) (mark_stops mark (past_spaces run))))
+
+spaced_number_stops : (mark : ℕ) (text : List ℕ) → StopsIn text (number_at mark (past_spaces text))
+spaced_number_stops mark text = spaced_stops text (number_at mark (past_spaces text)) (number_stops mark (past_spaces text))
+
+second_stops : (field : FieldValue) (u : ℕ) (text : List ℕ) → StopsIn text (second_at field u text)
+second_stops field u text =
+    then_stops text (number_at closing (past_spaces text)) (λ v left. map_step (λ _. pair_element field u v) (mark_at star (past_spaces left)))
+    (λ v left. mapped_stops_in left (λ _. pair_element field u v) (mark_at star (past_spaces left)) (spaced_stops left (mark_at star (past_spaces left)) (mark_stops star (past_spaces left)))) (spaced_number_stops closing text)
+
+pair_stops : (field : FieldValue) (text : List ℕ) → StopsIn text (pair_at field text)
+unfolding pair_at
+pair_stops field text = then_stops text (number_at comma (past_spaces text)) (second_at field) (second_stops field) (spaced_number_stops comma text)
+
 -- ---- terms
+
+word_after_stops : (n c : ℕ) (text : List ℕ) → StopsIn text (word_after n c text)
+word_after_stops n c text = mapped_stops_in text (with_coefficient c) (word_at n (past_spaces text)) (spaced_stops text (word_at n (past_spaces text)) (word_stops n (past_spaces text)))
 
 bare_stops : (n : ℕ) (text : List ℕ) → StopsIn text (bare_word n text)
 bare_stops n text = mapped_stops_in text (with_coefficient 1) (word_at n text) (word_stops n text)
@@ -151,13 +197,19 @@ first_run_stops field n text (byte ∷ after) some p = at (nat_eq byte star)
 
 term_stops : (field : FieldValue) (n byte : ℕ) (rest : List ℕ) → StopsIn (byte ∷ rest) (term_at field n byte rest)
 unfolding term_at
-term_stops field n byte rest = at (is_ascii_digit byte)
+term_stops field n byte rest = opened (opens_pair field byte)
   where
     at : (b : Bool) → StopsIn (byte ∷ rest) (term_by field n b (byte ∷ rest))
     at true =
         let run = past_run (byte ∷ rest) in
         first_run_stops field n (byte ∷ rest) (past_spaces run) (omega arith) (end_trans (past_spaces run) run (byte ∷ rest) (spaces_end run) (run_end (byte ∷ rest)))
     at false = bare_stops n (byte ∷ rest)
+
+    opened : (b : Bool) → StopsIn (byte ∷ rest) (term_opened field n b byte rest)
+    opened true =
+        stops_later rest (byte ∷ rest) (then_step (pair_at field rest) (word_after n)) (later byte whole)
+        (then_stops rest (pair_at field rest) (word_after n) (word_after_stops n) (pair_stops field rest))
+    opened false = at (is_ascii_digit byte)
 
 -- ---- expressions
 

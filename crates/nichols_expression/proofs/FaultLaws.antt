@@ -2,7 +2,6 @@
 use Rattle.std.proofs.Common.{◌≡◌, ℕ, ◌<◌, ◌≤◌, ◌-◌, ◌+◌, Bool, true, false, cond, List, [], ◌∷◌, ◌++◌, length, drop, refl, sym, ◌∙◌, ap, subst, nat_eq, arith, Ok, Err}
 use Rattle.std.specs.Char.{is_ascii_digit}
 use Rattle.std.proofs.lemmas.List.{length-append, length-drop, drop-append-le}
-use Rattle.nichols_field.specs.Field.{FieldValue}
 use Rattle.nichols_braid.specs.Braid.{BraidValue, IsBraid}
 use Rattle.nichols_tensor.specs.Combination.{Combination}
 use Rattle.nichols_expression.specs.declared.TheConstants.{NUMBER_LIMIT}
@@ -19,7 +18,7 @@ use Rattle.nichols_expression.proofs.Seen.{from_settling_byte, past_spaces-le, b
 use Rattle.nichols_expression.proofs.Twins.{IsStopped, FollowsFault, read_terms_follow}
 use Rattle.nichols_expression.proofs.Ends.{IsEndOf, end-le, end_is_drop, IsLeftAt, FaultsIn, read_terms_fault}
 use Rattle.nichols_expression.proofs.Values.{fault_read}
-use Rattle.nichols_expression.proofs.GrammarLaws.{grammar_is_accepted}
+use Rattle.nichols_expression.proofs.Whole.{read_terms_complete}
 
 -- the place of a byte by what is left there
 abbrev told : List ℕ → FaultAt → Fault
@@ -38,17 +37,17 @@ place_by_left text Surplus left within is = is
 
 pub faults_have_places : FaultsHavePlaces
 unfolding expression_of
-faults_have_places braid text fault h = at (read_terms braid.field braid.letters text) (read_terms_fault braid.field braid.letters text) h
+faults_have_places braid order text fault h = at (read_terms braid.field braid.letters text) (read_terms_fault braid.field braid.letters text) h
   where
-    at : (r : Read) → FaultsIn text r → value_or_fault braid.field text r ≡ Err fault → IsPlaceOf text fault.cause fault.place
+    at : (r : Read) → FaultsIn text r → value_or_fault braid.field order text r ≡ Err fault → IsPlaceOf text fault.cause fault.place
     at (Ok f) is h = absurd cc
     at (Err e) is h =
         let same : told text e ≡ fault = cc in
         subst (λ f. IsPlaceOf text f.cause f.place) same (place_by_left text e.cause e.left (end-le e.left text is.0) is.1)
 
-pub placed_read : (braid : BraidValue) (text : List ℕ) (fault : ExpressionFault) → IsFaultOf text (read_terms braid.field braid.letters text) fault → IsPlacedIn text fault
-placed_read braid text Memory h = tt
-placed_read braid text (At place cause) h = faults_have_places braid text (record { place = place; cause = cause }) (fault_read braid text (At place cause) h)
+pub placed_read : (braid : BraidValue) (order text : List ℕ) (fault : ExpressionFault) → IsFaultOf text (read_terms braid.field braid.letters text) fault → IsPlacedIn text fault
+placed_read braid order text Memory h = tt
+placed_read braid order text (At place cause) h = faults_have_places braid order text (record { place = place; cause = cause }) (fault_read braid order text (At place cause) h)
 
 -- ---- a front that settles a fault
 
@@ -123,25 +122,27 @@ settled_in_front text front back e split is settles =
 
 -- ---- such texts are no expressions
 
-stopped_has_no_value : (field : FieldValue) (text : List ℕ) (s : Read) (f : Combination) → IsStopped s → value_or_fault field text s ≡ Ok f → ⊥
-stopped_has_no_value field text (Ok g) f is h = is
-stopped_has_no_value field text (Err e) f is h = absurd cc
+stopped_has_no_terms : (s : Read) (f : Combination) → IsStopped s → s ≡ Ok f → ⊥
+stopped_has_no_terms (Ok g) f is h = is
+stopped_has_no_terms (Err e) f is h = absurd cc
 
-front_is_final : (braid : BraidValue) → IsBraid braid → (front back other : List ℕ) (text : List ℕ) (fault : Fault) → text ≡ front ++ back → expression_of braid text ≡ Err fault → Settles fault.cause fault.place front → (f : Combination) → expression_of braid (front ++ other) ≡ Ok f → ⊥
+front_is_final : (braid : BraidValue) → IsBraid braid → (order front back other : List ℕ) (text : List ℕ) (fault : Fault) → text ≡ front ++ back → expression_of braid order text ≡ Err fault → Settles fault.cause fault.place front →
+    IsNoExpression braid (front ++ other)
 unfolding expression_of
-front_is_final braid is_braid front back other text fault split h settles f k =
+front_is_final braid is_braid order front back other text fault split h settles p =
     at (read_terms braid.field braid.letters text) (read_terms_fault braid.field braid.letters text)
     (subst (λ t. FollowsFault back (read_terms braid.field braid.letters t) (read_terms braid.field braid.letters (front ++ other))) (sym split) (read_terms_follow braid.field braid.letters is_braid.most back other front)) h
   where
-    at : (r : Read) → FaultsIn text r → FollowsFault back r (read_terms braid.field braid.letters (front ++ other)) → value_or_fault braid.field text r ≡ Err fault → ⊥
+    at : (r : Read) → FaultsIn text r → FollowsFault back r (read_terms braid.field braid.letters (front ++ other)) → value_or_fault braid.field order text r ≡ Err fault → ⊥
     at (Ok g) is follows h = absurd cc
     at (Err e) is follows h =
         let same : fault ≡ told text e = cc in
-        stopped_has_no_value braid.field (front ++ other) (read_terms braid.field braid.letters (front ++ other)) f
-        (follows (settled_in_front text front back e split is.0 (subst (λ x. Settles x.cause x.place front) same settles))) k
+        stopped_has_no_terms (read_terms braid.field braid.letters (front ++ other)) p.0
+        (follows (settled_in_front text front back e split is.0 (subst (λ x. Settles x.cause x.place front) same settles))) (read_terms_complete braid.field braid.letters is_braid.most (front ++ other) p.0 p.1)
 
 pub faults_are_final : FaultsAreFinal
-faults_are_final braid is text fault h = (itself, λ front back split settles other f p. front_is_final braid is front back other text fault split h settles f ((grammar_is_accepted braid is (front ++ other) f).1 p))
+unfolding expression_of
+faults_are_final braid is order text fault h = (itself, λ front back split settles other. front_is_final braid is order front back other text fault split h settles)
   where
     itself : IsNoExpression braid text
-    itself f p = let e = sym h ∙ (grammar_is_accepted braid is text f).1 p in absurd cc
+    itself p = let e = ap (value_or_fault braid.field order text) (sym (read_terms_complete braid.field braid.letters is.most text p.0 p.1)) ∙ h in absurd cc

@@ -7,11 +7,12 @@ use Rattle.std.specs.Str.Parse.{IsNumeral, AllDigits, digits_value}
 use Rattle.std.proofs.lemmas.Bool.Decides.{nat_tests, Decides-eqb}
 use Rattle.std.proofs.lemmas.Slice.Eq.{bytes_eq-Decides}
 use Rattle.std.proofs.lemmas.Fmt.{decimal_is_IsNumeral}
+use Rattle.nichols_field.specs.Field.{FieldValue, is_extended}
 use Rattle.nichols_tensor.specs.declared.TheConstants.{LETTER_LIMIT}
-use Rattle.nichols_expression.specs.Bytes.{space, dot, empty_byte}
+use Rattle.nichols_expression.specs.Bytes.{space, opening, dot, empty_byte}
 use Rattle.nichols_expression.specs.Grammar.{IsSpaces, no_spaces, one_more, IsLetterText, letter, IsLetters, last_letter, next_letter}
 use Rattle.std.specs.Char.{is_ascii_digit}
-use Rattle.nichols_expression.specs.Reader.{run_at, past_run, past_spaces, is_letter_run}
+use Rattle.nichols_expression.specs.Reader.{run_at, past_run, past_spaces, is_letter_run, opens_pair}
 
 -- the first byte passes the test
 abbrev pub Begins : (ℕ → Bool) → List ℕ → Type 0
@@ -25,7 +26,7 @@ Avoids test (byte ∷ rest) = test byte ≡ false
 
 -- whether a term may begin with the byte
 abbrev pub begins_term : ℕ → Bool
-begins_term byte = is_ascii_digit byte || nat_eq byte empty_byte
+begins_term byte = is_ascii_digit byte || nat_eq byte empty_byte || nat_eq byte opening
 
 pub differs : (test : ℕ → Bool) (a b : ℕ) → test a ≡ true → test b ≡ false → nat_eq a b ≡ false
 differs test a b h k = at (nat_eq a b) refl
@@ -35,7 +36,10 @@ differs test a b h k = at (nat_eq a b) refl
     at true e = let c : true ≡ false = sym h ∙ ap test ((Decides-eqb a b).0 e) ∙ k in absurd cc
 
 pub digit_begins : (byte : ℕ) → is_ascii_digit byte ≡ true → begins_term byte ≡ true
-digit_begins byte h = ap (λ b. b || nat_eq byte empty_byte) h
+digit_begins byte h = ap (λ b. b || nat_eq byte empty_byte || nat_eq byte opening) h
+
+pub digit_opens_none : (field : FieldValue) (byte : ℕ) → is_ascii_digit byte ≡ true → opens_pair field byte ≡ false
+digit_opens_none field byte h = ap (λ b. b && is_extended field) (differs is_ascii_digit byte opening h refl)
 
 pub begins_weaker : (test other : ℕ → Bool) → ((b : ℕ) → test b ≡ true → other b ≡ true) → (text : List ℕ) → Begins test text → Begins other text
 begins_weaker test other h [] p = p

@@ -9,6 +9,7 @@ pub mod Twins
 pub mod Ends
 pub mod GrammarLaws
 pub mod FaultLaws
+pub mod Firsts
 pub mod PrintedLaws
 pub mod Numbers
 pub mod Scanning
@@ -16,6 +17,7 @@ pub mod Stops
 pub mod LetterTurns
 pub mod WordSteps
 pub mod TermSteps
+pub mod PairSteps
 pub mod TermTurns
 pub mod Entry
 pub mod Values

@@ -1,5 +1,5 @@
 -- How far ahead the reader has looked when it answers: no further than to the byte that settles a fault, or to the first behind what was read and spaces.
-use Rattle.std.proofs.Common.{◌≡◌, ℕ, zero, suc, ◌+◌, ◌<◌, ◌≤◌, pos, Bool, true, false, ◌&&◌, cond, List, [], ◌∷◌, ◌++◌, length, drop, refl, sym, ap, subst, nat_eq, nat_le, arith, Option, Some, None, Ok, Err}
+use Rattle.std.proofs.Common.{◌≡◌, ℕ, zero, suc, ◌+◌, ◌<◌, ◌≤◌, pos, Bool, true, false, ◌&&◌, cond, List, [], ◌∷◌, ◌++◌, length, drop, refl, sym, ◌∙◌, ap, subst, nat_eq, nat_le, arith, Option, Some, None, Ok, Err}
 use Rattle.std.specs.Str.Parse.{digits_value}
 use Rattle.std.specs.Char.{is_ascii_digit}
 use Rattle.std.proofs.lemmas.Bool.Decides.{nat_tests, Decides-eqb}
@@ -8,13 +8,14 @@ use Rattle.nichols_field.specs.Field.{FieldValue, residue}
 use Rattle.nichols_tensor.specs.Combination.{Term}
 use Rattle.nichols_tensor.specs.declared.TheConstants.{WORD_LIMIT}
 use Rattle.nichols_expression.specs.declared.TheConstants.{NUMBER_LIMIT, TERM_LIMIT}
-use Rattle.nichols_expression.specs.Bytes.{space, star, dot, zero_digit, empty_byte, signed_term}
+use Rattle.nichols_expression.specs.Bytes.{space, star, dot, zero_digit, empty_byte, signed_term, comma, closing}
 use Rattle.nichols_expression.specs.declared.signs.Sign.{Sign}
 use Rattle.nichols_expression.specs.declared.signs.Sign.TheVariants.{Positive}
 use Rattle.nichols_expression.specs.declared.faults.Cause.{Cause}
 use Rattle.nichols_expression.specs.declared.faults.Cause.TheVariants.{Early, Byte, Letter, LongNumber, LongWord, Terms, Surplus}
-use Rattle.nichols_expression.specs.Reader.{Step, map_step, fault, run_at, past_run, past_spaces, is_letter_run, at_dot, after_dot, after_letter, past_letter, at_run, letters_at, word_by, word_at, with_coefficient, bare_word, term_after_number, by_star, past_first_run, term_by, term_at, sign_of, Read, put_first, after_term, past_term, with_term, terms_at, is_empty, signed_by, zero_or_terms, expression_at}
+use Rattle.nichols_expression.specs.Reader.{Step, map_step, fault, run_at, past_run, past_spaces, is_letter_run, at_dot, after_dot, after_letter, past_letter, at_run, letters_at, word_by, word_at, with_coefficient, bare_word, term_after_number, by_star, past_first_run, term_by, term_at, sign_of, Read, put_first, after_term, past_term, with_term, terms_at, is_empty, signed_by, zero_or_terms, expression_at, then_step, past_mark, mark_at, number_by, number_at, pair_element, second_at, pair_at, word_after, opens_pair, term_opened}
 use Rattle.nichols_expression.proofs.Runs.{run_split}
+use Rattle.nichols_expression.proofs.Fronts.{digit_opens_none}
 
 -- what is left at the byte that settles a fault: its own, for a run that is no letter the first behind the run and spaces, for too long a number the last digit that makes it so
 abbrev pub from_settling_byte : Cause → List ℕ → List ℕ
@@ -129,6 +130,50 @@ unfolding word_at
 word_ahead_of_run n byte rest h =
     subst (λ b. ahead (word_by n b (nat_eq byte empty_byte) byte rest) ≤ length (past_spaces (past_run (byte ∷ rest)))) (sym h) (letters_ahead_of_run n 59 (byte ∷ rest))
 
+-- ---- pairs of numbers
+
+pub then_ahead : {X Y : Type 0} (r : Step X) (next : X → List ℕ → Step Y) → ((x : X) (left : List ℕ) → ahead (next x left) ≤ length (past_spaces left)) → ahead (then_step r next) ≤ ahead r
+then_ahead (Ok r) next further = further r.value r.left
+then_ahead (Err e) next further = omega arith
+
+pub mark_ahead : (mark : ℕ) → LooksWithin (mark_at mark)
+mark_ahead mark [] = omega arith
+mark_ahead mark (byte ∷ rest) = at (nat_eq byte mark)
+  where
+    at : (b : Bool) → ahead (past_mark b byte rest) ≤ length (byte ∷ rest)
+    at true = omega (arith, past_spaces-le rest)
+    at false = omega arith
+
+pub marked_ahead : (mark : ℕ) (text : List ℕ) → ahead (number_by mark true true text) ≤ length (past_spaces (past_run text))
+marked_ahead mark text = omega (arith, mapped_ahead (λ _. digits_value 10 (run_at text)) (mark_at mark (past_spaces (past_run text))), mark_ahead mark (past_spaces (past_run text)))
+
+pub number_ahead : (mark : ℕ) → LooksWithin (number_at mark)
+unfolding number_at
+number_ahead mark [] = omega arith
+number_ahead mark (byte ∷ rest) = at (is_ascii_digit byte) (nat_le (length (run_at (byte ∷ rest))) NUMBER_LIMIT)
+  where
+    at : (d s : Bool) → ahead (number_by mark d s (byte ∷ rest)) ≤ length (byte ∷ rest)
+    at false s = omega arith
+    at true false = omega (arith, length-drop NUMBER_LIMIT (byte ∷ rest))
+    at true true = omega (arith, marked_ahead mark (byte ∷ rest), behind_run-le (byte ∷ rest))
+
+-- what stands behind the second number of a pair
+abbrev pub element_at : FieldValue → ℕ → ℕ → List ℕ → Step ℕ
+element_at field u v left = map_step (λ _. pair_element field u v) (mark_at star (past_spaces left))
+
+pub element_ahead : (field : FieldValue) (u v : ℕ) (left : List ℕ) → ahead (element_at field u v left) ≤ length (past_spaces left)
+element_ahead field u v left = omega (arith, mapped_ahead (λ _. pair_element field u v) (mark_at star (past_spaces left)), mark_ahead star (past_spaces left))
+
+pub second_ahead : (field : FieldValue) (u : ℕ) (text : List ℕ) → ahead (second_at field u text) ≤ length (past_spaces text)
+second_ahead field u text = omega (arith, then_ahead (number_at closing (past_spaces text)) (element_at field u) (element_ahead field u), number_ahead closing (past_spaces text))
+
+pub pair_ahead : (field : FieldValue) → LooksWithin (pair_at field)
+unfolding pair_at
+pair_ahead field text = omega (arith, then_ahead (number_at comma (past_spaces text)) (second_at field) (second_ahead field), number_ahead comma (past_spaces text), past_spaces-le text)
+
+pub word_after_ahead : (n c : ℕ) (text : List ℕ) → ahead (word_after n c text) ≤ length (past_spaces text)
+word_after_ahead n c text = omega (arith, mapped_ahead (with_coefficient c) (word_at n (past_spaces text)), word_ahead n (past_spaces text))
+
 -- ---- terms
 
 pub bare_ahead : (n : ℕ) (text : List ℕ) → ahead (bare_word n text) ≡ ahead (word_at n text)
@@ -180,12 +225,15 @@ run_term_ahead_of_long field n byte rest h long = long_run_ahead field n (byte �
 
 pub term_of_run : (field : FieldValue) (n byte : ℕ) (rest : List ℕ) → is_ascii_digit byte ≡ true → term_at field n byte rest ≡ run_term field n (byte ∷ rest)
 unfolding term_at
-term_of_run field n byte rest h = ap (λ b. term_by field n b (byte ∷ rest)) h
+term_of_run field n byte rest h = ap (λ b. term_opened field n b byte rest) (digit_opens_none field byte h) ∙ ap (λ b. term_by field n b (byte ∷ rest)) h
 
 term_ahead_of_word : (field : FieldValue) (n byte : ℕ) (rest : List ℕ) → is_ascii_digit byte ≡ false → ahead (term_at field n byte rest) ≤ length (byte ∷ rest)
 unfolding term_at
-term_ahead_of_word field n byte rest h =
-    subst (λ b. ahead (term_by field n b (byte ∷ rest)) ≤ length (byte ∷ rest)) (sym h) (omega (arith, bare_ahead n (byte ∷ rest), word_ahead n (byte ∷ rest)))
+term_ahead_of_word field n byte rest h = opened (opens_pair field byte)
+  where
+    opened : (b : Bool) → ahead (term_opened field n b byte rest) ≤ length (byte ∷ rest)
+    opened true = omega (arith, then_ahead (pair_at field rest) (word_after n) (word_after_ahead n), pair_ahead field rest)
+    opened false = subst (λ b. ahead (term_by field n b (byte ∷ rest)) ≤ length (byte ∷ rest)) (sym h) (omega (arith, bare_ahead n (byte ∷ rest), word_ahead n (byte ∷ rest)))
 
 pub term_ahead : (field : FieldValue) (n byte : ℕ) (rest : List ℕ) → ahead (term_at field n byte rest) ≤ length (byte ∷ rest)
 term_ahead field n byte rest = at (is_ascii_digit byte) (is_short_run (byte ∷ rest)) refl refl

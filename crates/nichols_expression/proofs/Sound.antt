@@ -4,16 +4,16 @@ use Rattle.std.proofs.lemmas.Bool.{and_parts}
 use Rattle.std.specs.Str.Parse.{IsNumeral, digits_value}
 use Rattle.std.proofs.lemmas.Bool.Decides.{nat_tests, Decides-eqb}
 use Rattle.std.proofs.lemmas.Slice.Eq.{bytes_eq-Decides}
-use Rattle.nichols_field.specs.Field.{FieldValue, residue}
+use Rattle.nichols_field.specs.Field.{FieldValue, residue, joined, is_extended}
 use Rattle.nichols_tensor.specs.Combination.{Term, Combination}
 use Rattle.nichols_tensor.specs.declared.TheConstants.{WORD_LIMIT}
 use Rattle.nichols_expression.specs.declared.TheConstants.{NUMBER_LIMIT, TERM_LIMIT}
-use Rattle.nichols_expression.specs.Bytes.{star, plus_byte, minus_byte, dot, zero_digit, empty_byte, signed_term}
+use Rattle.nichols_expression.specs.Bytes.{opening, closing, comma, star, plus_byte, minus_byte, dot, zero_digit, empty_byte, signed_term}
 use Rattle.nichols_expression.specs.declared.signs.Sign.{Sign}
 use Rattle.nichols_expression.specs.declared.signs.Sign.TheVariants.{Positive, Reversed}
-use Rattle.nichols_expression.specs.Grammar.{IsSpaces, IsSign, plus_sign, minus_sign, IsLetterText, letter, IsLetters, last_letter, next_letter, IsWordText, empty_word, letters, number, IsTermText, alone, multiple, IsTerms, last_term, next_term, IsSignedTerms, unsigned, after_sign, IsExpression, nothing, terms}
+use Rattle.nichols_expression.specs.Grammar.{IsSpaces, IsSign, plus_sign, minus_sign, IsLetterText, letter, IsLetters, last_letter, next_letter, IsWordText, empty_word, letters, IsNumber, number, one_number, pair, IsTermText, alone, multiple, IsTerms, last_term, next_term, IsSignedTerms, unsigned, after_sign, IsExpression, nothing, terms}
 use Rattle.std.specs.Char.{is_ascii_digit}
-use Rattle.nichols_expression.specs.Reader.{Step, map_step, fault, run_at, past_run, past_spaces, is_letter_run, at_dot, after_dot, after_letter, past_letter, at_run, letters_at, word_by, word_at, with_coefficient, bare_word, term_after_number, by_star, past_first_run, term_by, term_at, sign_of, Read, put_first, after_term, past_term, with_term, terms_at, is_empty, signed_by, zero_or_terms, expression_at, read_terms}
+use Rattle.nichols_expression.specs.Reader.{Step, map_step, then_step, fault, past_mark, mark_at, number_by, number_at, pair_element, second_at, pair_at, word_after, opens_pair, term_opened, run_at, past_run, past_spaces, is_letter_run, at_dot, after_dot, after_letter, past_letter, at_run, letters_at, word_by, word_at, with_coefficient, bare_word, term_after_number, by_star, past_first_run, term_by, term_at, sign_of, Read, put_first, after_term, past_term, with_term, terms_at, is_empty, signed_by, zero_or_terms, expression_at, read_terms}
 use Rattle.nichols_expression.specs.declared.faults.Cause.TheVariants.{LongWord}
 use Rattle.nichols_expression.proofs.Runs.{run_split, run_is_digits, run_begins, SplitsSpaces, spaces_split}
 
@@ -112,13 +112,101 @@ word_sound n (byte ∷ rest) = at (is_ascii_digit byte) (nat_eq byte empty_byte)
     at false true q = (byte ∷ [], refl, subst (λ b. IsWordText n (b ∷ []) []) (sym ((Decides-eqb byte empty_byte).0 q)) empty_word)
     at false false q = tt
 
+-- ---- pairs of numbers
+
+-- a front of which P holds, and then another of which Q does
+abbrev pub IsThen : {X Y : Type 0} → (List ℕ → X → Type 0) → (X → List ℕ → Y → Type 0) → List ℕ → Y → Type 0
+IsThen {X} P Q front y = (first second : List ℕ) × (x : X) × (front ≡ first ++ second) × P first x × Q x second y
+
+pub reads_then : {X Y : Type 0} (P : List ℕ → X → Type 0) (Q : X → List ℕ → Y → Type 0) (text : List ℕ) (r : Step X) (next : X → List ℕ → Step Y) →
+    ((x : X) (left : List ℕ) → Reads (Q x) left (next x left)) → Reads P text r → Reads (IsThen P Q) text (then_step r next)
+reads_then P Q text (Err e) next further h = tt
+reads_then {X} {Y} P Q text (Ok r) next further h = at (next r.value r.left) (further r.value r.left)
+  where
+    at : (s : Step Y) → Reads (Q r.value) r.left s → Reads (IsThen P Q) text s
+    at (Err e) k = tt
+    at (Ok s) k = (h.0 ++ k.0, h.1 ∙ ap (λ l. h.0 ++ l) k.1 ∙ sym (append_assoc h.0 k.0 s.left), (h.0, k.0, r.value, refl, h.2, k.2))
+
+-- spaces, and then a front of which P holds
+abbrev pub IsBehindSpaces : {X : Type 0} → (List ℕ → X → Type 0) → List ℕ → X → Type 0
+IsBehindSpaces P front x = (gap body : List ℕ) × (front ≡ gap ++ body) × IsSpaces gap × P body x
+
+pub reads_behind : {X : Type 0} (P : List ℕ → X → Type 0) (text : List ℕ) (r : Step X) → Reads P (past_spaces text) r → Reads (IsBehindSpaces P) text r
+reads_behind P text (Err e) h = tt
+reads_behind P text (Ok r) h =
+    let gap = spaces_split text in
+    (gap.0 ++ h.0, gap.1 ∙ ap (λ t. gap.0 ++ t) h.1 ∙ sym (append_assoc gap.0 h.0 r.left), (gap.0, h.0, refl, gap.2, h.2))
+
+abbrev pub IsMark : ℕ → List ℕ → Unit {0} → Type 0
+IsMark mark front u = front ≡ mark ∷ []
+
+mark_sound : (mark : ℕ) (text : List ℕ) → Reads (IsMark mark) text (mark_at mark text)
+mark_sound mark [] = tt
+mark_sound mark (byte ∷ rest) = at (nat_eq byte mark) refl
+  where
+    at : (b : Bool) → nat_eq byte mark ≡ b → Reads (IsMark mark) (byte ∷ rest) (past_mark b byte rest)
+    at true e = (byte ∷ [], refl, ap (λ b. b ∷ []) ((Decides-eqb byte mark).0 e))
+    at false e = tt
+
+-- a number, spaces and a mark
+abbrev pub IsMarkedNumber : ℕ → List ℕ → ℕ → Type 0
+IsMarkedNumber mark front v = (digits gap : List ℕ) × (front ≡ digits ++ (gap ++ mark ∷ [])) × IsNumber digits v × IsSpaces gap
+
+pub run_is_numeral : (byte : ℕ) (rest : List ℕ) → is_ascii_digit byte ≡ true → IsNumeral 10 (run_at (byte ∷ rest))
+run_is_numeral byte rest e = (subst (λ l. 0 < length l) (sym (run_begins byte rest e)) (omega arith), run_is_digits (byte ∷ rest))
+
+number_sound : (mark : ℕ) (text : List ℕ) → Reads (IsMarkedNumber mark) text (number_at mark text)
+unfolding number_at
+number_sound mark [] = tt
+number_sound mark (byte ∷ rest) = at (is_ascii_digit byte) (nat_le (length (run_at (byte ∷ rest))) NUMBER_LIMIT) refl refl
+  where
+    at : (d s : Bool) → is_ascii_digit byte ≡ d → nat_le (length (run_at (byte ∷ rest))) NUMBER_LIMIT ≡ s → Reads (IsMarkedNumber mark) (byte ∷ rest) (number_by mark d s (byte ∷ rest))
+    at false s e q = tt
+    at true false e q = tt
+    at true true e q =
+        let run = run_at (byte ∷ rest) in
+        let gap = spaces_split (past_run (byte ∷ rest)) in
+        let short : length run ≤ NUMBER_LIMIT = grind (arith, nat_tests, q) in
+        reads_mapped (IsMark mark) (IsMarkedNumber mark) (λ _. digits_value 10 run) (λ front. run ++ (gap.0 ++ front)) (byte ∷ rest) (past_spaces (past_run (byte ∷ rest))) (mark_at mark (past_spaces (past_run (byte ∷ rest))))
+        (λ front left p. run_split (byte ∷ rest) ∙ ap (λ t. run ++ t) (gap.1 ∙ ap (λ t. gap.0 ++ t) p ∙ sym (append_assoc gap.0 front left)) ∙ sym (append_assoc run (gap.0 ++ front) left))
+        (λ front u p. (run, gap.0, ap (λ t. run ++ (gap.0 ++ t)) p, number (run_is_numeral byte rest e) short, gap.2)) (mark_sound mark (past_spaces (past_run (byte ∷ rest))))
+
+-- spaces, a star, and the element of two numbers
+abbrev pub IsElementBefore : FieldValue → ℕ → ℕ → List ℕ → ℕ → Type 0
+IsElementBefore field u v front c = (c ≡ pair_element field u v) × IsBehindSpaces (IsMark star) front tt
+
+-- the second number, the end of the pair, and the star behind it
+abbrev pub IsPairEnd : FieldValue → ℕ → List ℕ → ℕ → Type 0
+IsPairEnd field u front c = IsThen (IsBehindSpaces (IsMarkedNumber closing)) (IsElementBefore field u) front c
+
+-- what stands behind the beginning of a pair, up to the star behind it
+abbrev pub IsPairBody : FieldValue → List ℕ → ℕ → Type 0
+IsPairBody field front c = IsThen (IsBehindSpaces (IsMarkedNumber comma)) (IsPairEnd field) front c
+
+element_sound : (field : FieldValue) (u v : ℕ) (text : List ℕ) → Reads (IsElementBefore field u v) text (map_step (λ _. pair_element field u v) (mark_at star (past_spaces text)))
+element_sound field u v text =
+    reads_mapped (IsBehindSpaces (IsMark star)) (IsElementBefore field u v) (λ _. pair_element field u v) (λ front. front) text text (mark_at star (past_spaces text)) (λ front left e. e) (λ front x p. (refl, p))
+    (reads_behind (IsMark star) text (mark_at star (past_spaces text)) (mark_sound star (past_spaces text)))
+
+pub spaced_number_sound : (mark : ℕ) (text : List ℕ) → Reads (IsBehindSpaces (IsMarkedNumber mark)) text (number_at mark (past_spaces text))
+spaced_number_sound mark text = reads_behind (IsMarkedNumber mark) text (number_at mark (past_spaces text)) (number_sound mark (past_spaces text))
+
+second_sound : (field : FieldValue) (u : ℕ) (text : List ℕ) → Reads (IsPairEnd field u) text (second_at field u text)
+second_sound field u text =
+    reads_then (IsBehindSpaces (IsMarkedNumber closing)) (IsElementBefore field u) text (number_at closing (past_spaces text)) (λ v left. map_step (λ _. pair_element field u v) (mark_at star (past_spaces left)))
+    (element_sound field u) (spaced_number_sound closing text)
+
+pub pair_sound : (field : FieldValue) (text : List ℕ) → Reads (IsPairBody field) text (pair_at field text)
+unfolding pair_at
+pair_sound field text = reads_then (IsBehindSpaces (IsMarkedNumber comma)) (IsPairEnd field) text (number_at comma (past_spaces text)) (second_at field) (second_sound field) (spaced_number_sound comma text)
+
 -- ---- terms
 
 bare_sound : (field : FieldValue) (n : ℕ) (text : List ℕ) → Reads (IsTermText field n) text (bare_word n text)
 bare_sound field n text = reads_mapped (IsWordText n) (IsTermText field n) (with_coefficient 1) (λ front. front) text text (word_at n text) (λ front left e. e) (λ front w p. alone p) (word_sound n text)
 
-joined : (a b c d e : List ℕ) (x : ℕ) → a ++ (b ++ x ∷ (c ++ (d ++ e))) ≡ (a ++ b ++ x ∷ c ++ d) ++ e
-joined a b c d e x = sym (append_assoc a b (x ∷ (c ++ (d ++ e)))) ∙ sym (append_assoc (a ++ b) (x ∷ c) (d ++ e)) ∙ sym (append_assoc (a ++ b ++ x ∷ c) d e)
+regrouped : (a b c d e : List ℕ) (x : ℕ) → a ++ (b ++ x ∷ (c ++ (d ++ e))) ≡ (a ++ b ++ x ∷ c ++ d) ++ e
+regrouped a b c d e x = sym (append_assoc a b (x ∷ (c ++ (d ++ e)))) ∙ sym (append_assoc (a ++ b) (x ∷ c) (d ++ e)) ∙ sym (append_assoc (a ++ b ++ x ∷ c) d e)
 
 numbered_sound : (field : FieldValue) (n : ℕ) (text after : List ℕ) → IsNumeral 10 (run_at text) → SplitsSpaces (past_run text) (star ∷ after) → (b : Bool) → nat_le (length (run_at text)) NUMBER_LIMIT ≡ b →
     Reads (IsTermText field n) text (term_after_number field n b text after)
@@ -128,8 +216,8 @@ numbered_sound field n text after digits gap true e =
     let short : length (run_at text) ≤ NUMBER_LIMIT = grind (arith, nat_tests, e) in
     reads_mapped (IsWordText n) (IsTermText field n) (with_coefficient (residue field (pos (digits_value 10 (run_at text))))) (λ front. run_at text ++ gap.0 ++ star ∷ second.0 ++ front)
     text (past_spaces after) (word_at n (past_spaces after))
-    (λ front left q. run_split text ∙ ap (λ t. run_at text ++ t) gap.1 ∙ ap (λ t. run_at text ++ (gap.0 ++ star ∷ t)) (second.1 ∙ ap (λ t. second.0 ++ t) q) ∙ joined (run_at text) gap.0 second.0 front left star)
-    (λ front w p. multiple (number digits short) gap.2 second.2 p) (word_sound n (past_spaces after))
+    (λ front left q. run_split text ∙ ap (λ t. run_at text ++ t) gap.1 ∙ ap (λ t. run_at text ++ (gap.0 ++ star ∷ t)) (second.1 ∙ ap (λ t. second.0 ++ t) q) ∙ regrouped (run_at text) gap.0 second.0 front left star)
+    (λ front w p. multiple (one_number (number digits short)) gap.2 second.2 p) (word_sound n (past_spaces after))
 
 past_first_run_sound : (field : FieldValue) (n : ℕ) (text rest : List ℕ) → IsNumeral 10 (run_at text) → SplitsSpaces (past_run text) rest → Reads (IsTermText field n) text (past_first_run field n text rest)
 past_first_run_sound field n text [] digits gap = bare_sound field n text
@@ -139,16 +227,65 @@ past_first_run_sound field n text (byte ∷ after) digits gap = at (nat_eq byte 
     at true e = numbered_sound field n text after digits (subst (λ c. SplitsSpaces (past_run text) (c ∷ after)) ((Decides-eqb byte star).0 e) gap) (nat_le (length (run_at text)) NUMBER_LIMIT) refl
     at false e = bare_sound field n text
 
-run_is_numeral : (byte : ℕ) (rest : List ℕ) → is_ascii_digit byte ≡ true → IsNumeral 10 (run_at (byte ∷ rest))
-run_is_numeral byte rest e = (subst (λ l. 0 < length l) (sym (run_begins byte rest e)) (omega arith), run_is_digits (byte ∷ rest))
+-- a word behind spaces, as a term with this coefficient
+abbrev IsWordOf : ℕ → ℕ → List ℕ → Term → Type 0
+IsWordOf n c front t = (t.coefficient ≡ c) × IsBehindSpaces (IsWordText n) front t.word
+
+word_after_sound : (n c : ℕ) (text : List ℕ) → Reads (IsWordOf n c) text (word_after n c text)
+word_after_sound n c text =
+    reads_mapped (IsBehindSpaces (IsWordText n)) (IsWordOf n c) (with_coefficient c) (λ front. front) text text (word_at n (past_spaces text)) (λ front left e. e) (λ front w p. (refl, p))
+    (reads_behind (IsWordText n) text (word_at n (past_spaces text)) (word_sound n (past_spaces text)))
+
+-- a pair, its star and a word are a term
+pair_is_term : (field : FieldValue) (n : ℕ) → is_extended field ≡ true → (front : List ℕ) (t : Term) → IsThen (IsPairBody field) (IsWordOf n) front t → IsTermText field n (opening ∷ front) t
+pair_is_term field n extended front t h =
+    let body = h.4 in
+    let first = body.4 in
+    let rest = body.5 in
+    let second = rest.4 in
+    let element = rest.5 in
+    let word = h.5 in
+    let u = body.2 in
+    let v = rest.2 in
+    let one = first.0 in
+    let digits = first.4.0 in
+    let two = first.4.1 in
+    let three = second.0 in
+    let more = second.4.0 in
+    let four = second.4.1 in
+    let before = element.1.0 in
+    let after = word.1.0 in
+    let text = word.1.1 in
+    let value : t.coefficient ≡ joined field (pos u) (pos v) = word.0 ∙ element.0 in
+    let term : IsTermText field n ((opening ∷ one ++ digits ++ two ++ comma ∷ three ++ more ++ four ++ closing ∷ []) ++ before ++ star ∷ after ++ text) (record { word = t.word; coefficient = joined field (pos u) (pos v) }) =
+    multiple (pair extended first.3 first.4.3 first.4.4 second.3 second.4.3 second.4.4) element.1.3 word.1.3 word.1.4 in
+    let first_is : first.1 ≡ digits ++ (two ++ comma ∷ []) = first.4.2 in
+    let second_is : second.1 ≡ more ++ (four ++ closing ∷ []) = second.4.2 in
+    let star_is : element.1.1 ≡ star ∷ [] = element.1.4 in
+    let written : opening ∷ front ≡ (opening ∷ one ++ digits ++ two ++ comma ∷ three ++ more ++ four ++ closing ∷ []) ++ before ++ star ∷ after ++ text =
+    rw (h.3, body.3, first.2, first_is, rest.3, second.2, second_is, element.1.2, star_is, word.1.2) (simp append_assoc) in
+    subst (λ l. IsTermText field n l t) (sym written) (subst (λ c. IsTermText field n ((opening ∷ one ++ digits ++ two ++ comma ∷ three ++ more ++ four ++ closing ∷ []) ++ before ++ star ∷ after ++ text) (record { word = t.word; coefficient = c })) (sym value) term)
+
+pair_term_sound : (field : FieldValue) (n : ℕ) → is_extended field ≡ true → (rest : List ℕ) → Reads (IsTermText field n) (opening ∷ rest) (then_step (pair_at field rest) (word_after n))
+pair_term_sound field n extended rest = at (then_step (pair_at field rest) (word_after n)) (reads_then (IsPairBody field) (IsWordOf n) rest (pair_at field rest) (word_after n) (word_after_sound n) (pair_sound field rest))
+  where
+    at : (r : Step Term) → Reads (IsThen (IsPairBody field) (IsWordOf n)) rest r → Reads (IsTermText field n) (opening ∷ rest) r
+    at (Err e) h = tt
+    at (Ok r) h = (opening ∷ h.0, ap (λ l. opening ∷ l) h.1, pair_is_term field n extended h.0 r.value h.2)
 
 pub term_sound : (field : FieldValue) (n byte : ℕ) (rest : List ℕ) → Reads (IsTermText field n) (byte ∷ rest) (term_at field n byte rest)
 unfolding term_at
-term_sound field n byte rest = at (is_ascii_digit byte) refl
+term_sound field n byte rest = opened (opens_pair field byte) refl
   where
     at : (b : Bool) → is_ascii_digit byte ≡ b → Reads (IsTermText field n) (byte ∷ rest) (term_by field n b (byte ∷ rest))
     at true e = past_first_run_sound field n (byte ∷ rest) (past_spaces (past_run (byte ∷ rest))) (run_is_numeral byte rest e) (spaces_split (past_run (byte ∷ rest)))
     at false e = bare_sound field n (byte ∷ rest)
+
+    opened : (b : Bool) → opens_pair field byte ≡ b → Reads (IsTermText field n) (byte ∷ rest) (term_opened field n b byte rest)
+    opened false e = at (is_ascii_digit byte) refl
+    opened true e =
+        let tests = and_parts (nat_eq byte opening) (is_extended field) e in
+        subst (λ b. Reads (IsTermText field n) (b ∷ rest) (then_step (pair_at field rest) (word_after n))) (sym ((Decides-eqb byte opening).0 tests.0)) (pair_term_sound field n tests.1 rest)
 
 -- ---- expressions
 
@@ -199,7 +336,7 @@ past_term_sound field n room further ih sign front before (byte ∷ rest) t p ga
         let second = spaces_split rest in
         ends_put (IsTermsWithin field n room next) (IsTermsWithin field n (suc room) sign) (signed_term field sign t) (λ more. front ++ before ++ byte ∷ second.0 ++ more)
         (front ++ (before ++ byte ∷ rest)) (past_spaces rest) (further next (past_spaces rest))
-        (λ more back e. ap (λ l. front ++ (before ++ byte ∷ l)) (second.1 ∙ ap (λ l. second.0 ++ l) e) ∙ joined front before second.0 more back byte)
+        (λ more back e. ap (λ l. front ++ (before ++ byte ∷ l)) (second.1 ∙ ap (λ l. second.0 ++ l) e) ∙ regrouped front before second.0 more back byte)
         (λ more f q. (next_term p gap told second.2 q.0, omega (arith, q.1))) (ih next (past_spaces rest))
 
 with_term_sound : (field : FieldValue) (n room : ℕ) (further : Sign → List ℕ → Read) → ((s : Sign) (t : List ℕ) → EndsIn (IsTermsWithin field n room s) t (further s t)) →

@@ -19,6 +19,6 @@ pub stop_moved : {X Y : Type 0} (text : List ℕ) (inner : Result X FaultAt) (re
     ((cause : Cause) (left : List ℕ) → inner ≡ fault cause left → read ≡ fault cause left) → IsStoppedBy text inner stop → IsStoppedBy text read stop
 stop_moved text inner read stop h s = (s.0, s.1, s.2, h stop.cause (drop s.0 text) s.3)
 
-pub answered : {T : Type 0} (P : T → Type 0) (Q : ExpressionFault → Type 0) (gives : ExpressionFault → Type 0) (r : Result T ExpressionFault) → IsErr r → IsErrAnd r gives → ((e : ExpressionFault) → gives e → Q e) → MatchResult r P Q
+pub answered : {T E : Type 0} (P : T → Type 0) (Q : E → Type 0) (gives : E → Type 0) (r : Result T E) → IsErr r → IsErrAnd r gives → ((e : E) → gives e → Q e) → MatchResult r P Q
 answered P Q gives (Ok x) err h make = let c : false ≡ true = err in absurd cc
 answered P Q gives (Err e) err h make = make e h

@@ -1,6 +1,7 @@
 -- Two texts with a common front are read alike, as far as what is read depends on that front alone.
 use Rattle.std.proofs.Common.{◌≡◌, ◌-◌, ℕ, zero, suc, ◌<◌, ◌≤◌, ◌+◌, pos, Bool, true, false, ◌&&◌, cond, List, [], ◌∷◌, ◌++◌, length, refl, sym, ◌∙◌, ap, subst, nat_eq, nat_le, arith, Option, Some, None, Result, Ok, Err}
 use Rattle.std.proofs.lemmas.Bool.{and_parts}
+use Rattle.std.proofs.lemmas.List.{length-drop}
 use Rattle.std.specs.Str.Parse.{digits_value}
 use Rattle.std.specs.Char.{is_ascii_digit}
 use Rattle.std.proofs.lemmas.Bool.Decides.{nat_tests, Decides-eqb}
@@ -8,18 +9,18 @@ use Rattle.nichols_field.specs.Field.{FieldValue, residue}
 use Rattle.nichols_tensor.specs.Combination.{Term}
 use Rattle.nichols_tensor.specs.declared.TheConstants.{LETTER_LIMIT, WORD_LIMIT}
 use Rattle.nichols_expression.specs.declared.TheConstants.{NUMBER_LIMIT, TERM_LIMIT}
-use Rattle.nichols_expression.specs.Bytes.{space, star, dot, zero_digit, empty_byte, signed_term}
+use Rattle.nichols_expression.specs.Bytes.{space, star, dot, zero_digit, empty_byte, signed_term, comma, closing}
 use Rattle.nichols_expression.specs.declared.signs.Sign.{Sign}
 use Rattle.nichols_expression.specs.declared.signs.Sign.TheVariants.{Positive}
 use Rattle.nichols_expression.specs.declared.faults.Cause.TheVariants.{Letter, LongWord}
-use Rattle.nichols_expression.specs.Reader.{FaultAt, Step, got, map_step, fault, run_at, past_run, past_spaces, is_letter_run, at_dot, after_dot, after_letter, past_letter, at_run, letters_at, word_by, word_at, with_coefficient, bare_word, term_after_number, by_star, past_first_run, term_by, term_at, sign_of, Read, put_first, after_term, past_term, with_term, terms_at, is_empty, signed_by, zero_or_terms, expression_at, read_terms}
+use Rattle.nichols_expression.specs.Reader.{FaultAt, Step, got, map_step, fault, run_at, past_run, past_spaces, is_letter_run, at_dot, after_dot, after_letter, past_letter, at_run, letters_at, word_by, word_at, with_coefficient, bare_word, term_after_number, by_star, past_first_run, term_by, term_at, sign_of, Read, put_first, after_term, past_term, with_term, terms_at, is_empty, signed_by, zero_or_terms, expression_at, read_terms, then_step, past_mark, mark_at, number_by, number_at, pair_element, second_at, pair_at, word_after, opens_pair, term_opened}
 use Rattle.nichols_expression.specs.Grammar.{IsSpaces, no_spaces, one_more}
 use Rattle.nichols_expression.proofs.Sound.{spaces_by_test}
 use Rattle.nichols_expression.proofs.Numbers.{no_letter_long}
 use Rattle.nichols_expression.proofs.Complete.{word_of_digit}
 use Rattle.nichols_expression.proofs.Whole.{not_letter}
 use Rattle.nichols_expression.proofs.Fronts.{all_spaces}
-use Rattle.nichols_expression.proofs.Seen.{from_settling_byte, ahead, ahead_of_fault, past_spaces-le, past_run-le, LooksWithin, at_dot_ahead, letters_ahead, letters_ahead_of_run, word_ahead, is_short_run, long_run, run_term, run_term_ahead_of_short, run_term_ahead_of_long, term_of_run, TermsLookWithin, past_term_ahead, terms_ahead, terms_ahead_of_first, expression_ahead}
+use Rattle.nichols_expression.proofs.Seen.{from_settling_byte, ahead, ahead_of_fault, past_spaces-le, past_run-le, LooksWithin, at_dot_ahead, letters_ahead, letters_ahead_of_run, word_ahead, is_short_run, long_run, run_term, run_term_ahead_of_short, run_term_ahead_of_long, term_of_run, TermsLookWithin, past_term_ahead, terms_ahead, terms_ahead_of_first, expression_ahead, mark_ahead, marked_ahead, number_ahead, element_at, element_ahead, second_ahead, word_after_ahead}
 
 -- ---- texts with a common front
 
@@ -238,14 +239,92 @@ run_term_follows m k field n small byte s t p digit = at (is_short_run (byte ∷
         let other = long_run_twins m k NUMBER_LIMIT (byte ∷ s) (byte ∷ t) (common byte p) more (long_run (byte ∷ s) long) in
         stops_follow m k (run_term field n (byte ∷ s)) (run_term field n (byte ∷ t)) (long_run_stops field n small byte s digit (long_run (byte ∷ s) long)) (long_run_stops field n small byte t digit other))
 
+-- ---- pairs of numbers
+
+then_follows : {X Y : Type 0} (m k : List ℕ) (r s : Step X) (next : X → List ℕ → Step Y) → ((x : X) (left : List ℕ) → ahead (next x left) ≤ length (past_spaces left)) →
+    ((x : X) → KeepsTwins m k (next x)) → Follows m k r s → Follows m k (then_step r next) (then_step s next)
+then_follows {X} {Y} m k (Err e) s next within further p = λ h. stopped s (p h)
+  where
+    stopped : (t : Step X) → IsStopped t → IsStopped (then_step t next)
+    stopped (Ok t) q = absurd q
+    stopped (Err t) q = tt
+then_follows m k (Ok r) s next within further p =
+    guarded m k (next r.value r.left) (then_step s next) (λ h.
+    let q = p (omega (arith, h, within r.value r.left)) in
+    subst (λ t. Follows m k (next r.value r.left) (then_step t next)) (sym q.1) (further r.value r.left q.0 q.2))
+
+mark_follows : (m k : List ℕ) (mark : ℕ) → KeepsTwins m k (mark_at mark)
+mark_follows m k mark _ _ fork = guarded m k (mark_at mark m) (mark_at mark k) (λ h. absurd (omega (arith, h, mark_ahead mark m)))
+mark_follows m k mark _ _ (common {s} {t} byte p) = at (nat_eq byte mark)
+  where
+    at : (b : Bool) → Follows m k (past_mark b byte s) (past_mark b byte t)
+    at true = λ h. (t, refl, p)
+    at false = λ h. tt
+
+spaced_follows : {X : Type 0} (m k : List ℕ) (step : List ℕ → Step X) → LooksWithin step → KeepsTwins m k step → KeepsTwins m k (λ text. step (past_spaces text))
+spaced_follows m k step within keeps s t p =
+    guarded m k (step (past_spaces s)) (step (past_spaces t)) (λ h. keeps (past_spaces s) (past_spaces t) (spaces_twins m k s t p (omega (arith, h, within (past_spaces s)))))
+
+-- a number that is no longer than one may be, and the mark behind it
+closed_number_follows : (m k : List ℕ) (mark : ℕ) (s t : List ℕ) → Twins m k s t → is_short_run s ≡ true → length m < length (past_spaces (past_run s)) → Follows m k (number_by mark true true s) (number_by mark true (is_short_run t) t)
+closed_number_follows m k mark s t p short more =
+    let q = run_twins m k s t p (omega (arith, more, past_spaces-le (past_run s))) in
+    let also : is_short_run t ≡ true = ap (λ run. nat_le (length run) NUMBER_LIMIT) q.1 ∙ short in
+    subst (λ b. Follows m k (number_by mark true true s) (number_by mark true b t)) (sym also)
+    (subst (λ run. Follows m k (number_by mark true true s) (map_step (λ _. digits_value 10 run) (mark_at mark (past_spaces (past_run t))))) (sym q.1)
+    (mapped_follows m k (λ _. digits_value 10 (run_at s)) (mark_at mark (past_spaces (past_run s))) (mark_at mark (past_spaces (past_run t)))
+    (mark_follows m k mark (past_spaces (past_run s)) (past_spaces (past_run t)) (spaces_twins m k (past_run s) (past_run t) q.0 more))))
+
+short_test : (text : List ℕ) → NUMBER_LIMIT < length (run_at text) → is_short_run text ≡ false
+short_test text h = grind (arith, nat_tests, h)
+
+number_follows : (m k : List ℕ) (mark : ℕ) → KeepsTwins m k (number_at mark)
+unfolding number_at
+number_follows m k mark _ _ fork = guarded m k (number_at mark m) (number_at mark k) (λ h. absurd (omega (arith, h, number_ahead mark m)))
+number_follows m k mark _ _ (common {s} {t} byte p) = at (is_ascii_digit byte) (is_short_run (byte ∷ s)) refl
+  where
+    at : (d b : Bool) → is_short_run (byte ∷ s) ≡ b → Follows m k (number_by mark d b (byte ∷ s)) (number_by mark d (is_short_run (byte ∷ t)) (byte ∷ t))
+    at false b e = λ h. tt
+    at true true e =
+        guarded m k (number_by mark true true (byte ∷ s)) (number_by mark true (is_short_run (byte ∷ t)) (byte ∷ t)) (λ h.
+        closed_number_follows m k mark (byte ∷ s) (byte ∷ t) (common byte p) e (omega (arith, h, marked_ahead mark (byte ∷ s))))
+    at true false e = λ h.
+        let long : NUMBER_LIMIT < length (run_at (byte ∷ s)) = long_run (byte ∷ s) e in
+        let more : length m + NUMBER_LIMIT < length (byte ∷ s) = omega (arith, h, length-drop NUMBER_LIMIT (byte ∷ s)) in
+        subst (λ b. IsStopped (number_by mark true b (byte ∷ t))) (sym (short_test (byte ∷ t) (long_run_twins m k NUMBER_LIMIT (byte ∷ s) (byte ∷ t) (common byte p) more long))) tt
+
+element_follows : (m k : List ℕ) (field : FieldValue) (u v : ℕ) → KeepsTwins m k (element_at field u v)
+element_follows m k field u v s t p =
+    mapped_follows m k (λ _. pair_element field u v) (mark_at star (past_spaces s)) (mark_at star (past_spaces t)) (spaced_follows m k (mark_at star) (mark_ahead star) (mark_follows m k star) s t p)
+
+second_follows : (m k : List ℕ) (field : FieldValue) (u : ℕ) → KeepsTwins m k (second_at field u)
+second_follows m k field u s t p =
+    then_follows m k (number_at closing (past_spaces s)) (number_at closing (past_spaces t)) (element_at field u) (element_ahead field u) (element_follows m k field u)
+    (spaced_follows m k (number_at closing) (number_ahead closing) (number_follows m k closing) s t p)
+
+pair_follows : (m k : List ℕ) (field : FieldValue) → KeepsTwins m k (pair_at field)
+unfolding pair_at
+pair_follows m k field s t p =
+    then_follows m k (number_at comma (past_spaces s)) (number_at comma (past_spaces t)) (second_at field) (second_ahead field) (second_follows m k field)
+    (spaced_follows m k (number_at comma) (number_ahead comma) (number_follows m k comma) s t p)
+
+word_after_follows : (m k : List ℕ) (n c : ℕ) → KeepsTwins m k (word_after n c)
+word_after_follows m k n c s t p = mapped_follows m k (with_coefficient c) (word_at n (past_spaces s)) (word_at n (past_spaces t)) (spaced_word_follows m k n s t p)
+
+-- ---- whole terms
+
 -- a term that begins with a byte of the common front
 term_follows : (m k : List ℕ) (field : FieldValue) (n : ℕ) → n ≤ LETTER_LIMIT → (byte : ℕ) (s t : List ℕ) → Twins m k s t → Follows m k (term_at field n byte s) (term_at field n byte t)
 unfolding term_at
-term_follows m k field n small byte s t p = at (is_ascii_digit byte) refl
+term_follows m k field n small byte s t p = opened (opens_pair field byte)
   where
     at : (b : Bool) → is_ascii_digit byte ≡ b → Follows m k (term_by field n b (byte ∷ s)) (term_by field n b (byte ∷ t))
     at false e = bare_follows m k n (byte ∷ s) (byte ∷ t) (common byte p)
     at true e = run_term_follows m k field n small byte s t p e
+
+    opened : (b : Bool) → Follows m k (term_opened field n b byte s) (term_opened field n b byte t)
+    opened true = then_follows m k (pair_at field s) (pair_at field t) (word_after n) (word_after_ahead n) (word_after_follows m k n) (pair_follows m k field s t p)
+    opened false = at (is_ascii_digit byte) refl
 
 -- ---- expressions
 

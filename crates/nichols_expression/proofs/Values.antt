@@ -1,10 +1,12 @@
 -- The value of an expression that was read, its fault, and what holds of its terms.
-use Rattle.std.proofs.Common.{◌≡◌, ◌≤◌, ◌+◌, ◌-◌, ℕ, suc, Bool, true, false, cond, nat_eq, not, List, [], ◌∷◌, Ok, Err, length, drop, ◌∙◌, ap, subst, arith}
+use Rattle.std.proofs.Common.{◌≡◌, ◌≤◌, ◌+◌, ◌-◌, ℕ, suc, Bool, true, false, cond, nat_eq, not, List, [], ◌∷◌, Ok, Err, length, map, drop, ◌∙◌, ap, subst, arith}
 use Rattle.std.specs.declared.cmp.Ordering.{Ordering}
 use Rattle.std.specs.declared.cmp.Ordering.TheVariants.{Less, Equal, Greater}
-use Rattle.std.proofs.lemmas.List.{length-drop}
+use Rattle.std.proofs.lemmas.List.{length-drop, length-map}
 use Rattle.nichols_field.specs.Field.{FieldValue, IsField}
 use Rattle.nichols_braid.specs.Braid.{BraidValue}
+use Rattle.nichols_braid.specs.Order.{IsOrder, rank_of, in_ranks}
+use Rattle.nichols_braid.proofs.Ranks.{ranks_over}
 use Rattle.nichols_tensor.specs.Combination.{Term, Combination, AllElements, without_zeros}
 use Rattle.nichols_tensor.specs.InOrder.{with_term, rising_terms, in_order}
 use Rattle.nichols_tensor.specs.WordOrder.{word_cmp}
@@ -102,24 +104,35 @@ pub fewer-in_order : (k : FieldValue) (f : Combination) → length (in_order k f
 unfolding in_order
 fewer-in_order k f = omega (arith, fewer-without_zeros (rising_terms k f), fewer-rising_terms k f)
 
-pub read_few : (k : FieldValue) (n : ℕ) (text : List ℕ) (f : Combination) → read_terms k n text ≡ Ok f → length (in_order k f) ≤ TERM_LIMIT
-read_few k n text f h = omega (arith, fewer-in_order k f, expression_few k n text f (in_grammar k n text f h))
+pub read_few : (k : FieldValue) (n : ℕ) (order text : List ℕ) (f : Combination) → read_terms k n text ≡ Ok f → length (in_order k (in_ranks order f)) ≤ TERM_LIMIT
+read_few k n order text f h =
+    omega (arith, fewer-in_order k (in_ranks order f), length-map f (λ t. (let r : Term = record { word = map (rank_of order) t.word; coefficient = t.coefficient } in r)), expression_few k n text f (in_grammar k n text f h))
+
+-- ---- in ranks
+
+pub ranks_elements : (k : FieldValue) (order : List ℕ) (f : Combination) → AllElements k f → AllElements k (in_ranks order f)
+ranks_elements k order [] h = tt
+ranks_elements k order (t ∷ f) h = (h.0, ranks_elements k order f h.1)
+
+pub terms_over_ranks : (n : ℕ) (order : List ℕ) → IsOrder n order → (f : Combination) → IsOver n f → IsOver n (in_ranks order f)
+terms_over_ranks n order o [] h = tt
+terms_over_ranks n order o (t ∷ f) h = (ranks_over n order o t.word h.0, terms_over_ranks n order o f h.1)
+
+pub over_read : (k : FieldValue) (n : ℕ) (order : List ℕ) → length order ≡ n → IsOrder (length order) order → (text : List ℕ) (f : Combination) → read_terms k n text ≡ Ok f → IsOver n (in_order k (in_ranks order f))
+over_read k n order size o text f h = over-in_order n k (in_ranks order f) (terms_over_ranks n order (subst (λ m. IsOrder m order) size o) f (read_over k n text f h))
 
 -- ---- values and faults
 
-pub value_read : (braid : BraidValue) (text : List ℕ) (f : Combination) → read_terms braid.field braid.letters text ≡ Ok f → expression_of braid text ≡ Ok (in_order braid.field f)
+pub value_read : (braid : BraidValue) (order text : List ℕ) (f : Combination) → read_terms braid.field braid.letters text ≡ Ok f → expression_of braid order text ≡ Ok (in_order braid.field (in_ranks order f))
 unfolding expression_of
-value_read braid text f h = ap (value_or_fault braid.field text) h
+value_read braid order text f h = ap (value_or_fault braid.field order text) h
 
-pub fault_read : (braid : BraidValue) (text : List ℕ) (fault : ExpressionFault) → IsFaultOf text (read_terms braid.field braid.letters text) fault → IsFaultAnswer (expression_of braid text) fault
+pub fault_read : (braid : BraidValue) (order text : List ℕ) (fault : ExpressionFault) → IsFaultOf text (read_terms braid.field braid.letters text) fault → IsFaultAnswer (expression_of braid order text) fault
 unfolding expression_of
-fault_read braid text Memory h = tt
-fault_read braid text (At place cause) h =
+fault_read braid order text Memory h = tt
+fault_read braid order text (At place cause) h =
     let counted : length text + 1 - length (drop h.0 text) ≡ place = omega (arith, length-drop h.0 text, h.1, h.2) in
-    ap (value_or_fault braid.field text) h.3 ∙ ap (λ n. Err (told n cause)) counted
+    ap (value_or_fault braid.field order text) h.3 ∙ ap (λ n. Err (told n cause)) counted
   where
     told : ℕ → Cause → Fault
     told n cause = record { place = n; cause = cause }
-
-pub over_read : (k : FieldValue) (n : ℕ) (text : List ℕ) (f : Combination) → read_terms k n text ≡ Ok f → IsOver n (in_order k f)
-over_read k n text f h = over-in_order n k f (read_over k n text f h)

@@ -9,6 +9,18 @@ use Rattle.nichols_expression.specs.declared.signs.Sign.TheVariants.{Positive, R
 abbrev pub space : ℕ
 space = 32
 
+-- `(`
+abbrev pub opening : ℕ
+opening = 40
+
+-- `)`
+abbrev pub closing : ℕ
+closing = 41
+
+-- `,`
+abbrev pub comma : ℕ
+comma = 44
+
 -- `*`
 abbrev pub star : ℕ
 star = 42

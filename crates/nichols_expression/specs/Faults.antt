@@ -1,7 +1,13 @@
 -- What the first fault of a text says.
-use Rattle.std.specs.Prelude.{◌≡◌, ℕ, ◌-◌, ◌+◌, ◌<◌, ◌≤◌, List, length, drop}
-use Rattle.nichols_expression.specs.declared.TheConstants.{NUMBER_LIMIT}
+use Rattle.std.specs.Prelude.{◌≡◌, ◌⊎◌, ℕ, ◌-◌, ◌+◌, ◌<◌, ◌≤◌, List, [], ◌∷◌, ◌++◌, length, drop}
+use Rattle.nichols_field.specs.Field.{FieldValue}
+use Rattle.nichols_tensor.specs.Combination.{Combination}
+use Rattle.nichols_tensor.specs.declared.TheConstants.{WORD_LIMIT}
+use Rattle.nichols_expression.specs.declared.TheConstants.{NUMBER_LIMIT, TERM_LIMIT}
+use Rattle.nichols_expression.specs.Bytes.{dot}
+use Rattle.nichols_expression.specs.Grammar.{IsSpaces, IsSign, IsLetters, IsSignedTerms}
 use Rattle.nichols_expression.specs.Reader.{past_run, past_spaces}
+use Rattle.nichols_expression.specs.declared.signs.Sign.{Sign}
 use Rattle.nichols_expression.specs.declared.faults.ExpressionFault.{ExpressionFault}
 use Rattle.nichols_expression.specs.declared.faults.ExpressionFault.TheVariants.{At, Memory}
 use Rattle.nichols_expression.specs.declared.faults.Cause.{Cause}
@@ -33,3 +39,33 @@ Settles LongNumber place front = place + NUMBER_LIMIT ≤ length front
 Settles LongWord place front = place ≤ length front
 Settles Terms place front = place ≤ length front
 Settles Surplus place front = ⊥
+
+-- a text that ends with as many letters as a word may have and one dot more
+pub record EndsWithLastDot (n : ℕ) (text : List ℕ) : Type 0 where
+  pub before : List ℕ
+  pub letters : List ℕ
+  pub word : List ℕ
+  pub split : text ≡ before ++ letters ++ dot ∷ []
+  pub is : IsLetters n letters word
+  pub full : length word ≡ WORD_LIMIT
+
+-- a text that is as many terms as an expression may have, a sign, and spaces
+pub record EndsWithLastSign (field : FieldValue) (n : ℕ) (text : List ℕ) : Type 0 where
+  pub before : List ℕ
+  pub body : List ℕ
+  pub between : List ℕ
+  pub byte : ℕ
+  pub sign : Sign
+  pub after : List ℕ
+  pub terms : Combination
+  pub split : text ≡ before ++ body ++ between ++ byte ∷ after
+  pub gap : IsSpaces before
+  pub are : IsSignedTerms field n body terms
+  pub spaced : IsSpaces between
+  pub signed : IsSign byte sign
+  pub blank : IsSpaces after
+  pub full : length terms ≡ TERM_LIMIT
+
+-- one of these
+abbrev pub EndsInFull : FieldValue → ℕ → List ℕ → Type 0
+EndsInFull field n text = EndsWithLastDot n text ⊎ EndsWithLastSign field n text

@@ -1,12 +1,12 @@
 -- The texts that are expressions over n letters, each beside the list of its terms, and the value of these.
-use Rattle.std.specs.Prelude.{ℕ, ◌≤◌, pos, List, [], ◌∷◌, ◌++◌, length, decimal}
+use Rattle.std.specs.Prelude.{◌≡◌, ℕ, ◌≤◌, pos, true, List, [], ◌∷◌, ◌++◌, length, decimal}
 use Rattle.std.specs.Str.Parse.{IsNumeral, digits_value}
-use Rattle.nichols_field.specs.Field.{FieldValue, residue}
+use Rattle.nichols_field.specs.Field.{FieldValue, residue, joined, is_extended}
 use Rattle.nichols_tensor.specs.Combination.{Term, Combination}
 use Rattle.nichols_tensor.specs.Words.{IsLetterOf}
 use Rattle.nichols_tensor.specs.declared.TheConstants.{WORD_LIMIT}
 use Rattle.nichols_expression.specs.declared.TheConstants.{NUMBER_LIMIT, TERM_LIMIT}
-use Rattle.nichols_expression.specs.Bytes.{space, star, plus_byte, minus_byte, dot, zero_digit, empty_byte, signed_term}
+use Rattle.nichols_expression.specs.Bytes.{space, opening, closing, comma, star, plus_byte, minus_byte, dot, zero_digit, empty_byte, signed_term}
 use Rattle.nichols_expression.specs.declared.signs.Sign.{Sign}
 use Rattle.nichols_expression.specs.declared.signs.Sign.TheVariants.{Positive, Reversed}
 
@@ -35,14 +35,20 @@ pub data IsWordText (n : ℕ) : List ℕ → List ℕ → Type 0 where
   letters : {text w : List ℕ} → IsLetters n text w → length w ≤ WORD_LIMIT → IsWordText n text w
 
 -- number = 1 to NUMBER_LIMIT ASCII digits
-pub data IsCoefficient (field : FieldValue) : List ℕ → ℕ → Type 0 where
-  number : {text : List ℕ} → IsNumeral 10 text → length text ≤ NUMBER_LIMIT → IsCoefficient field text (residue field (pos (digits_value 10 text)))
+pub data IsNumber : List ℕ → ℕ → Type 0 where
+  number : {text : List ℕ} → IsNumeral 10 text → length text ≤ NUMBER_LIMIT → IsNumber text (digits_value 10 text)
 
--- term = [ number spaces "*" spaces ] word
+-- coefficient = number, or with an extension also "(" spaces number spaces "," spaces number spaces ")"
+pub data IsCoefficient (field : FieldValue) : List ℕ → ℕ → Type 0 where
+  one_number : {text : List ℕ} {u : ℕ} → IsNumber text u → IsCoefficient field text (residue field (pos u))
+  pair : {first second one two three four : List ℕ} {u v : ℕ} → is_extended field ≡ true → IsSpaces one → IsNumber first u → IsSpaces two → IsSpaces three → IsNumber second v → IsSpaces four →
+      IsCoefficient field (opening ∷ one ++ first ++ two ++ comma ∷ three ++ second ++ four ++ closing ∷ []) (joined field (pos u) (pos v))
+
+-- term = [ coefficient spaces "*" spaces ] word
 pub data IsTermText (field : FieldValue) (n : ℕ) : List ℕ → Term → Type 0 where
   alone : {text w : List ℕ} → IsWordText n text w → IsTermText field n text (record { word = w; coefficient = 1 })
-  multiple : {number before after text w : List ℕ} {c : ℕ} → IsCoefficient field number c → IsSpaces before → IsSpaces after → IsWordText n text w →
-      IsTermText field n (number ++ before ++ star ∷ after ++ text) (record { word = w; coefficient = c })
+  multiple : {coefficient before after text w : List ℕ} {c : ℕ} → IsCoefficient field coefficient c → IsSpaces before → IsSpaces after → IsWordText n text w →
+      IsTermText field n (coefficient ++ before ++ star ∷ after ++ text) (record { word = w; coefficient = c })
 
 -- term { spaces sign spaces term }, after a sign
 pub data IsTerms (field : FieldValue) (n : ℕ) : Sign → List ℕ → Combination → Type 0 where

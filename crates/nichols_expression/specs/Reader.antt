@@ -2,13 +2,14 @@
 use Rattle.std.specs.Prelude.{ℕ, zero, suc, ◌-◌, ◌+◌, pos, Bool, true, false, ◌&&◌, List, [], ◌∷◌, length, decimal, Option, Some, None, Result, Ok, Err, nat_eq, nat_le, bytes_eq, if◌then◌else◌}
 use Rattle.std.specs.Char.{is_ascii_digit}
 use Rattle.std.specs.Str.Parse.{digits_value}
-use Rattle.nichols_field.specs.Field.{FieldValue, residue}
+use Rattle.nichols_field.specs.Field.{FieldValue, residue, joined, is_extended}
 use Rattle.nichols_braid.specs.Braid.{BraidValue}
+use Rattle.nichols_braid.specs.Order.{in_ranks}
 use Rattle.nichols_tensor.specs.Combination.{Term, Combination}
 use Rattle.nichols_tensor.specs.InOrder.{in_order}
 use Rattle.nichols_tensor.specs.declared.TheConstants.{WORD_LIMIT}
 use Rattle.nichols_expression.specs.declared.TheConstants.{NUMBER_LIMIT, TERM_LIMIT}
-use Rattle.nichols_expression.specs.Bytes.{space, star, plus_byte, minus_byte, dot, zero_digit, empty_byte, signed_term}
+use Rattle.nichols_expression.specs.Bytes.{space, opening, closing, comma, star, plus_byte, minus_byte, dot, zero_digit, empty_byte, signed_term}
 use Rattle.nichols_expression.specs.declared.signs.Sign.{Sign}
 use Rattle.nichols_expression.specs.declared.signs.Sign.TheVariants.{Positive, Reversed}
 use Rattle.nichols_expression.specs.declared.faults.Cause.{Cause}
@@ -38,6 +39,11 @@ fault cause left = Err (record { left = left; cause = cause })
 abbrev pub map_step : {X Y : Type 0} → (X → Y) → Step X → Step Y
 map_step f (Ok r) = got (f r.value) r.left
 map_step f (Err e) = Err e
+
+-- one step, and then another
+abbrev pub then_step : {X Y : Type 0} → Step X → (X → List ℕ → Step Y) → Step Y
+then_step (Ok r) next = next r.value r.left
+then_step (Err e) next = Err e
 
 -- ---- runs of digits and spaces
 
@@ -100,6 +106,41 @@ unfoldable pub word_at : ℕ → List ℕ → Step (List ℕ)
 word_at n [] = fault Early []
 word_at n (byte ∷ rest) = word_by n (is_ascii_digit byte) (nat_eq byte empty_byte) byte rest
 
+-- ---- pairs of numbers
+
+-- a byte that is due: it, or another
+abbrev pub past_mark : Bool → ℕ → List ℕ → Step (Unit {0})
+past_mark true byte rest = got tt rest
+past_mark false byte rest = fault Byte (byte ∷ rest)
+
+-- a byte, where it is due
+abbrev pub mark_at : ℕ → List ℕ → Step (Unit {0})
+mark_at mark [] = fault Early []
+mark_at mark (byte ∷ rest) = past_mark (nat_eq byte mark) byte rest
+
+-- a number with a mark behind it and spaces: no run, too long a one, or a number
+abbrev pub number_by : ℕ → Bool → Bool → List ℕ → Step ℕ
+number_by mark false short text = fault Byte text
+number_by mark true false text = fault LongNumber text
+number_by mark true true text = map_step (λ _. digits_value 10 (run_at text)) (mark_at mark (past_spaces (past_run text)))
+
+-- a number and the mark behind it, where they are due
+unfoldable pub number_at : ℕ → List ℕ → Step ℕ
+number_at mark [] = fault Early []
+number_at mark (byte ∷ rest) = number_by mark (is_ascii_digit byte) (nat_le (length (run_at (byte ∷ rest))) NUMBER_LIMIT) (byte ∷ rest)
+
+-- the element of two numbers
+abbrev pub pair_element : FieldValue → ℕ → ℕ → ℕ
+pair_element field u v = joined field (pos u) (pos v)
+
+-- behind the first number of a pair: the second, and `*`
+abbrev pub second_at : FieldValue → ℕ → List ℕ → Step ℕ
+second_at field u text = then_step (number_at closing (past_spaces text)) (λ v left. map_step (λ _. pair_element field u v) (mark_at star (past_spaces left)))
+
+-- a pair of numbers behind its `(`, up to the `*` behind it
+unfoldable pub pair_at : FieldValue → List ℕ → Step ℕ
+pair_at field text = then_step (number_at comma (past_spaces text)) (second_at field)
+
 -- ---- terms
 
 -- a word with its coefficient
@@ -128,9 +169,22 @@ abbrev pub term_by : FieldValue → ℕ → Bool → List ℕ → Step Term
 term_by field n true text = past_first_run field n text (past_spaces (past_run text))
 term_by field n false text = bare_word n text
 
+-- a word behind a coefficient and its `*`
+abbrev pub word_after : ℕ → ℕ → List ℕ → Step Term
+word_after n c text = map_step (with_coefficient c) (word_at n (past_spaces text))
+
+-- whether a pair begins with the byte
+abbrev pub opens_pair : FieldValue → ℕ → Bool
+opens_pair field byte = nat_eq byte opening && is_extended field
+
+-- a term that begins with a pair, or not
+abbrev pub term_opened : FieldValue → ℕ → Bool → ℕ → List ℕ → Step Term
+term_opened field n true byte rest = then_step (pair_at field rest) (word_after n)
+term_opened field n false byte rest = term_by field n (is_ascii_digit byte) (byte ∷ rest)
+
 -- a term, at a byte and what comes after it
 unfoldable pub term_at : FieldValue → ℕ → ℕ → List ℕ → Step Term
-term_at field n byte rest = term_by field n (is_ascii_digit byte) (byte ∷ rest)
+term_at field n byte rest = term_opened field n (opens_pair field byte) byte rest
 
 -- ---- expressions
 
@@ -192,11 +246,12 @@ read_terms field n text = expression_at field n (past_spaces text)
 abbrev pub Fault : Type 0
 Fault = record { place : ℕ; cause : Cause }
 
--- the value of the terms: those of one word are added, and zeros dropped; or the place of a fault, by what is left of the text there
-abbrev pub value_or_fault : FieldValue → List ℕ → Read → Result Combination Fault
-value_or_fault field text (Ok terms) = Ok (in_order field terms)
-value_or_fault field text (Err e) = Err (record { place = length text + 1 - length e.left; cause = e.cause })
+-- the value of the terms, in ranks: those of one word are added, and zeros dropped; or the place of a fault, by what is left of the text there
+abbrev pub value_or_fault : FieldValue → List ℕ → List ℕ → Read → Result Combination Fault
+value_or_fault field order text (Ok terms) = Ok (in_order field (in_ranks order terms))
+value_or_fault field order text (Err e) = Err (record { place = length text + 1 - length e.left; cause = e.cause })
 
--- the value of a text as an expression over the letters and the field of a braid, or its first fault from the left
-unfoldable pub expression_of : BraidValue → List ℕ → Result Combination Fault
-expression_of braid text = value_or_fault braid.field text (read_terms braid.field braid.letters text)
+-- the value, in ranks, of a text as an expression over the letters and the field of a braid with an order of the letters, or its first
+-- fault from the left
+unfoldable pub expression_of : BraidValue → List ℕ → List ℕ → Result Combination Fault
+expression_of braid order text = value_or_fault braid.field order text (read_terms braid.field braid.letters text)

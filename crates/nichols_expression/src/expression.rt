@@ -15,28 +15,37 @@ ghost use Rattle.nichols_expression.specs.Steps.{IsFaultOf, starts_with};
 
 use crate::faults::{Cause, ExpressionFault};
 use crate::placed_fault::PlacedFault;
+use crate::ranks::ranked_terms;
 use crate::scan::{behind_spaces, has_byte};
 use crate::signs::{Sign, sign_of};
 use crate::terms::read_terms;
-use nichols_braid::Braid;
+use nichols_braid::{Braid, Order};
 use nichols_field::Field;
 use nichols_words::{Comb, Term};
 use std::alloc::Global;
 
-/// The value of a text as an expression over the letters of a braid, with coefficients in its field.
+/// The value of a text as an expression over the letters of a braid on ranks, with coefficients in its field: the text has
+/// letters, and the value their ranks in the order.
 ///
-/// An expression is `0`, or terms between `+` and `-`, with a sign before the first or none; a term is a word, or a number
+/// An expression is `0`, or terms between `+` and `-`, with a sign before the first or none; a term is a word, or a coefficient
 /// and `*` before one; a word is `e`, which is the empty one, or letters from 1 to n between dots. Spaces stand anywhere but
-/// inside of words and numbers. A number has 1 to `NUMBER_LIMIT` digits and is taken modulo p, a word has at most `WORD_LIMIT`
-/// letters, an expression at most `TERM_LIMIT` terms; terms of one word are added.
+/// inside of words and numbers. A coefficient is a number, or over a field with an extension also a pair `(u,v)` of numbers, for
+/// u + v t. A number has 1 to `NUMBER_LIMIT` digits and is taken modulo p, a word has at most `WORD_LIMIT` letters, an expression
+/// at most `TERM_LIMIT` terms; terms of one word are added.
 ///
 /// `At` is the first fault from the left; its cause is never `Surplus`, which is one of documents. The time is that of the
 /// bytes, and of sorting the terms.
-#[tactic(auto, using(crate::proofs::Values::read_elements, crate::proofs::Values::over_read, crate::proofs::Values::read_few, crate::proofs::Values::value_read, crate::proofs::Values::fault_read, crate::proofs::FaultLaws::placed_read))]
-pub fn read_expression(alloc: Global, braid: &Braid, text: &str) -> Result<Comb, ExpressionFault>
+#[tactic(auto, using(crate::proofs::Values::read_elements, crate::proofs::Values::over_read, crate::proofs::Values::read_few, crate::proofs::Values::value_read, crate::proofs::Values::fault_read, crate::proofs::Values::read_over, crate::proofs::Values::ranks_elements, crate::proofs::FaultLaws::placed_read))]
+pub fn read_expression(
+    alloc: Global,
+    braid: &Braid,
+    order: &Order,
+    text: &str,
+) -> Result<Comb, ExpressionFault>
+    requires { length order.now ≡ braid.now.letters }
     ensures value { MatchResult result
-        (λ c. expression_of braid.now text.now ≡ Ok c)
-        (IsFaultAnswer (expression_of braid.now text.now)) }
+        (λ c. expression_of braid.now order.now text.now ≡ Ok c)
+        (IsFaultAnswer (expression_of braid.now order.now text.now)) }
     ensures places { IfErr result (IsPlacedIn text.now) }
     ensures shape { IfOk result IsOrdered }
     ensures letters { IfOk result (IsOver braid.now.letters) }
@@ -44,8 +53,11 @@ pub fn read_expression(alloc: Global, braid: &Braid, text: &str) -> Result<Comb,
     ensures terms { IfOk result (λ c. length c ≤ TERM_LIMIT) }
 {
     let field = braid.field();
-    let mut terms = terms_of(alloc, text.as_bytes(), field, braid.letters())?;
-    let sum = Comb::sum_of(alloc, field, terms.as_mut_slice())?;
+    let _modulus = field.modulus();
+    let _list = order.list();
+    let terms = terms_of(alloc, text.as_bytes(), field, braid.letters())?;
+    let mut ranked = ranked_terms(alloc, order, terms.as_slice())?;
+    let sum = Comb::sum_of(alloc, field, ranked.as_mut_slice())?;
     Ok(sum)
 }
 

@@ -1,6 +1,6 @@
 //! What ties the reading of expressions to their grammar.
 
-ghost use Rattle.nichols_expression.specs.Laws.{GrammarIsAccepted, ATextHasOneValue, FaultsHavePlaces, FaultsAreFinal, PrintedCombinationsAreReadAgain};
+ghost use Rattle.nichols_expression.specs.Laws.{GrammarIsAccepted, ATextHasOneValue, FaultsHavePlaces, FaultsAreFinal, FaultsAreFirst, PrintedCombinationsAreReadAgain};
 
 /// Exactly the texts of the grammar are accepted, each with its value.
 pub fn grammar_is_accepted()
@@ -29,7 +29,19 @@ pub fn faults_are_final()
     ensures { FaultsAreFinal }
 {}
 
-/// A printed combination of at most `TERM_LIMIT` terms over the braid is an expression with that value, and is read again as itself.
+/// The first fault is told no later than it could be: each front of the text that ends before its place can be completed to an
+/// expression, unless it ends with the dot behind the last letter that a word may have or, but for spaces, with the sign behind the
+/// last term that an expression may have.
+///
+/// A run of digits that is no letter, or too long a number, has its place at the first of its digits: of a front that ends in such a
+/// run nothing is said.
+#[tactic(auto, using(crate::proofs::Firsts::faults_are_first))]
+pub fn faults_are_first()
+    ensures { FaultsAreFirst }
+{}
+
+/// A printed combination of at most `TERM_LIMIT` terms over the braid on ranks is an expression with that value, and is read again as itself in
+/// the order in which it was printed, over fields with an extension too.
 pub fn printed_combinations_are_read_again()
     ensures { PrintedCombinationsAreReadAgain }
 {}

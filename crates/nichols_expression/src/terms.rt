@@ -5,11 +5,12 @@ ghost use Rattle.std.specs.Result.{MatchResult};
 ghost use Rattle.nichols_field.specs.Field.{IsElement};
 ghost use Rattle.nichols_tensor.specs.declared.TheConstants.{LETTER_LIMIT};
 ghost use Rattle.nichols_expression.specs.declared.TheConstants.{TERM_LIMIT};
-ghost use Rattle.nichols_expression.specs.Reader.{map_step, term_at, terms_at, with_coefficient, word_at};
+ghost use Rattle.nichols_expression.specs.Reader.{map_step, opens_pair, term_at, terms_at, with_coefficient, word_at};
 ghost use Rattle.nichols_expression.specs.Steps.{IsFaultOf, IsReadTo, IsStoppedBy};
 
 use crate::digits::number_of;
 use crate::faults::{Cause, ExpressionFault};
+use crate::pairs::read_pair;
 use crate::placed_fault::PlacedFault;
 use crate::scan::{behind_run, behind_spaces, has_byte, has_digit};
 use crate::signs::{Sign, sign_of, signed};
@@ -19,9 +20,17 @@ use nichols_field::Field;
 use nichols_words::Term;
 use std::alloc::Global;
 
+/// Whether a pair of numbers begins at a place.
+fn opens_pair(text: &[u8], from: usize, field: Field) -> bool
+    requires { from < length text.now }
+    ensures { result ≡ opens_pair field (get_or text.now from 0) }
+{
+    text[from] == b'(' && field.is_extended()
+}
+
 /// The coefficient of the term at a place, and the place where its word is due. A term without a number has 1.
 ///
-/// A run of digits is a number only where `*` comes behind it and spaces: else the word is due at the run itself.
+/// Over a field with an extension it may be a pair. A run of digits is a number only where `*` comes behind it and spaces: else the word is due at the run itself.
 fn read_coefficient(
     text: &[u8],
     from: usize,
@@ -35,6 +44,10 @@ fn read_coefficient(
         (IsStoppedBy text.now (term_at field letters (get_or text.now from 0) (drop (from + 1) text.now))) }
 {
     let _modulus = field.modulus();
+    if opens_pair(text, from, field) {
+        let (coefficient, end) = read_pair(text, from + 1, field)?;
+        return Ok((coefficient, behind_spaces(text, end)));
+    }
     if !has_digit(text, from) {
         return Ok((1, from));
     }

@@ -25,13 +25,12 @@ pub rows_alike : (braid : BraidValue) → IsBraid braid → (m : ℕ) (g : List 
 unfolding rows
 rows_alike braid is m g = ap (λ ws. length (filter (has_product braid g) ws)) ((one_reading braid is).alike.candidate_lists m)
 
-pub stop_is : (braid : BraidValue) → IsBraid braid → (limit rows_limit m n : ℕ) (next : List (List ℕ)) (counts : List ℕ) → n ≡ suc m → n ≤ limit → next ≡ products braid (suc m) → length next ≤ MOST_PRODUCTS →
-    counts ≡ map (rows is_killed braid (suc m)) next → rows_stop rows_limit n 1 counts ≡ stops_at braid limit rows_limit (suc m)
+pub stop_is : (braid : BraidValue) → IsBraid braid → (limit rows_limit m : ℕ) (next : List (List ℕ)) → suc m ≤ limit → next ≡ products braid (suc m) → length next ≤ MOST_PRODUCTS →
+    rows_stop rows_limit (suc m) 1 (map (rows is_killed braid (suc m)) next) ≡ stops_at braid limit rows_limit (suc m)
 unfolding rows_of_products
-stop_is braid is limit rows_limit m n next counts degree within listed few e =
+stop_is braid is limit rows_limit m next within listed few =
     let size : length next ≡ length (products braid (suc m)) = ap length listed in
-    ap (λ k. rows_stop rows_limit k 1 counts) degree
-    ∙ ap (rows_stop rows_limit (suc m) 1) (e ∙ ap (map (rows is_killed braid (suc m))) listed ∙ map_same (rows is_killed braid (suc m)) (rows is_in_kernel braid (suc m)) (products braid (suc m)) (λ g i. sym (rows_alike braid is (suc m) g)))
+    ap (rows_stop rows_limit (suc m) 1) (ap (map (rows is_killed braid (suc m))) listed ∙ map_same (rows is_killed braid (suc m)) (rows is_in_kernel braid (suc m)) (products braid (suc m)) (λ g i. sym (rows_alike braid is (suc m) g)))
     ∙ sym (stop_by_rows braid limit rows_limit (suc m) (omega arith) (omega arith))
 
 -- ---- what nothing stops is within the limits

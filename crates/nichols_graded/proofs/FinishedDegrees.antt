@@ -1,6 +1,6 @@
 -- Degrees over the symmetrizer, from the rules of the derivations; the end that is reached.
-use Rattle.std.proofs.Common.{◌≡◌, ℕ, suc, ◌≤◌, Bool, true, false, cond, List, [], ◌∷◌, length, map, refl, sym, ◌∙◌, ap, subst, arith, nat_lt}
-use Rattle.std.specs.Prelude.{Option, None, Some, is_some, IsTrue, ◌↔◌}
+use Rattle.std.proofs.Common.{◌≡◌, ℕ, zero, suc, ◌<◌, ◌≤◌, ◌+◌, Vec, Bool, true, false, cond, [], ◌∷◌, length, map, refl, sym, ◌∙◌, ap, subst, arith, nat_lt}
+use Rattle.std.specs.Prelude.{Option, None, Some, option_map, IsTrue, ◌↔◌}
 use Rattle.std.specs.List.{Contains}
 use Rattle.std.proofs.lemmas.Bool.Decides.{Decides-eqb, nat_tests}
 use Rattle.std.proofs.lemmas.List.{nil_from_length}
@@ -17,15 +17,16 @@ use Rattle.nichols_braid.proofs.NextProducts.{products_first}
 use Rattle.nichols_lift.proofs.Readings.{one_reading}
 use Rattle.nichols_graded.specs.declared.ahead.Ahead.{Ahead}
 use Rattle.nichols_graded.specs.declared.ahead.Ahead.TheVariants as ahead
-use Rattle.nichols_graded.specs.declared.ends.End.TheVariants.{Stopped}
+use Rattle.nichols_graded.specs.declared.ends.End.TheVariants.{Closed, Stopped, Starved}
 use Rattle.nichols_graded.specs.declared.ends.Stop.{Stop}
 use Rattle.nichols_graded.specs.declared.ends.Stop.TheVariants.{Rows}
 use Rattle.nichols_graded.specs.Ends.{rows_stop, rows_of_products, stops_at, finished_degrees, end_reached}
-use Rattle.nichols_block.specs.Levels.{LevelsValue}
-use Rattle.nichols_graded.specs.declared.ends.End.{End}
-use Rattle.nichols_graded.specs.Ahead.{IsAhead, end_known}
-use Rattle.nichols_graded.specs.Graded.{GradedValue, IsGraded, graded_value}
-use Rattle.nichols_graded.proofs.EndLaws.{stop_by_rows, free_is_within, free_if_finished, next_is_finished, end_closed, end_stopped, end_none}
+use Rattle.nichols_graded.specs.Ahead.{AreOpen, IsAhead, end_after}
+use Rattle.nichols_braid.specs.declared.products.Products.{Products}
+use Rattle.nichols_layout.specs.declared.TheConstants.{MOST_WINDOW}
+use Rattle.std.specs.Global.{Global}
+use Rattle.nichols_graded.specs.Graded.{GradedValue, IsGraded}
+use Rattle.nichols_graded.proofs.EndLaws.{stop_by_rows, free_is_within, free_if_finished, next_is_finished, end_stopped, end_is_reached}
 
 -- ---- empty degrees
 
@@ -63,9 +64,11 @@ first_is_free braid limit rows_limit some =
 
 -- ---- what holds between calls
 
-pub graded_start : (braid : BraidValue) → IsBraid braid → (limit rows_limit last : ℕ) → limit ≤ MOST_DEGREES → 1 ≤ rows_limit → rows_limit ≤ MOST_ROWS → last ≡ 0 →
-    IsGraded (record { braid = braid; limit = limit; rows = rows_limit; last = last; ended = false })
-graded_start braid is limit rows_limit last most some few e = record {
+pub graded_start : (braid : BraidValue) → IsBraid braid → (limit rows_limit window last : ℕ) → limit ≤ MOST_DEGREES → 1 ≤ rows_limit → rows_limit ≤ MOST_ROWS → 1 ≤ window → window ≤ MOST_WINDOW → last ≡ 0 →
+    IsGraded (record { braid = braid; limit = limit; rows = rows_limit; window = window; last = last; ended = false })
+graded_start braid is limit rows_limit window last most some few some_window few_window e = record {
+  some_window = some_window;
+  few_window = few_window;
   braid = is;
   most = most;
   some_rows = some;
@@ -92,63 +95,62 @@ next_finished g h going free = next_is_finished g.braid (stops_at g.braid g.limi
 pub stop_ends : (g : GradedValue) (stop : Stop) → IsGraded g → g.ended ≡ false → stops_at g.braid g.limit g.rows (suc g.last) ≡ Some stop → end_reached g.braid g.limit g.rows g.last ≡ Some (Stopped stop)
 stop_ends g stop h going e = end_stopped g.braid g.limit g.rows g.last stop h.finished (h.going going) e
 
--- the end after a finished degree, from what is known of the next
-known_end : (braid : BraidValue) (limit rows_limit m : ℕ) (next : Ahead) → limit ≤ MOST_DEGREES → Contains (finished_degrees braid limit rows_limit) m → IsAhead braid limit rows_limit (suc m) next →
-    end_known (is_empty_degree is_in_kernel braid m) next ≡ end_reached braid limit rows_limit m
-known_end braid limit rows_limit m next most i known = at (is_empty_degree is_in_kernel braid m) refl next known
+-- the end after a finished degree, where it is reached
+pub end_is : (braid : BraidValue) (limit rows_limit m : ℕ) → limit ≤ MOST_DEGREES → Contains (finished_degrees braid limit rows_limit) m → end_after braid limit rows_limit m ≡ end_reached braid limit rows_limit m
+unfolding end_after
+end_is braid limit rows_limit m most i = sym (end_is_reached braid limit rows_limit m most i)
+
+-- where no end is reached after a degree, it isn't empty and the next isn't stopped
+pub going_on : (braid : BraidValue) (limit rows_limit m : ℕ) → end_after braid limit rows_limit m ≡ None → (is_empty_degree is_in_kernel braid m ≡ false) × (stops_at braid limit rows_limit (suc m) ≡ None)
+unfolding end_after
+going_on braid limit rows_limit m e = at (is_empty_degree is_in_kernel braid m) refl (stops_at braid limit rows_limit (suc m)) refl e
   where
-    at : (b : Bool) → is_empty_degree is_in_kernel braid m ≡ b → (next : Ahead) → IsAhead braid limit rows_limit (suc m) next → end_known b next ≡ end_reached braid limit rows_limit m
-    at true empty next known = sym (end_closed braid limit rows_limit m i empty)
-    at false full (ahead.Stopped stop) known = sym (end_stopped braid limit rows_limit m stop i full known)
-    at false full (ahead.Open ps) known = sym (end_none braid limit rows_limit m most i full known.0)
+    at : (b : Bool) → is_empty_degree is_in_kernel braid m ≡ b → (o : Option Stop) → stops_at braid limit rows_limit (suc m) ≡ o → cond b (Some Closed) (option_map Stopped o) ≡ None → (is_empty_degree is_in_kernel braid m ≡ false) × (stops_at braid limit rows_limit (suc m) ≡ None)
+    at true empty o eo e = absurd (let c : Some Closed ≡ None = e in cc)
+    at false full None eo e = (full, eo)
+    at false full (Some stop) eo e = absurd (let c : Some (Stopped stop) ≡ None = e in cc)
 
-filled_if_going : (b : Bool) (next : Ahead) → is_some (end_known b next) ≡ false → b ≡ false
-filled_if_going true next e = let c : true ≡ false = e in cc
-filled_if_going false next e = refl
-
-graded_next : (g : GradedValue) (next : Ahead) → IsGraded g → g.ended ≡ false → stops_at g.braid g.limit g.rows (suc g.last) ≡ None →
-    IsGraded (record g { last = suc g.last; ended = is_some (end_known (is_empty_degree is_in_kernel g.braid (suc g.last)) next) })
-graded_next g next h going free = record {
-  braid = h.braid;
-  most = h.most;
-  some_rows = h.some_rows;
-  few_rows = h.few_rows;
-  finished = next_finished g h going free;
-  going = λ e. filled_if_going (is_empty_degree is_in_kernel g.braid (suc g.last)) next e;
-}
+-- the degrees of a wave up to the first after which the end is reached are finished
+pub wave_finished : (g : GradedValue) → IsGraded g → g.ended ≡ false → stops_at g.braid g.limit g.rows (suc g.last) ≡ None → (k : ℕ) → ((i : ℕ) → suc i < k → end_after g.braid g.limit g.rows (suc g.last + i) ≡ None) →
+    Contains (finished_degrees g.braid g.limit g.rows) (g.last + k)
+wave_finished g h going free zero before = let same : g.last ≡ g.last + 0 = omega arith in subst (Contains (finished_degrees g.braid g.limit g.rows)) same h.finished
+wave_finished g h going free (suc zero) before = let same : suc g.last ≡ g.last + 1 = omega arith in subst (Contains (finished_degrees g.braid g.limit g.rows)) same (next_finished g h going free)
+wave_finished g h going free (suc (suc k)) before =
+    let below : Contains (finished_degrees g.braid g.limit g.rows) (g.last + suc k) = wave_finished g h going free (suc k) (λ i less. before i (omega (arith, less))) in
+    let here : suc g.last + k ≡ g.last + suc k = omega arith in
+    let ends : end_after g.braid g.limit g.rows (g.last + suc k) ≡ None = ap (end_after g.braid g.limit g.rows) (sym here) ∙ before k (omega arith) in
+    let (full, next) = going_on g.braid g.limit g.rows (g.last + suc k) ends in
+    let most = h.most in
+    let within = free_is_within g.braid g.limit g.rows (suc (g.last + suc k)) next in
+    let same : suc (g.last + suc k) ≡ g.last + suc (suc k) = omega arith in
+    subst (Contains (finished_degrees g.braid g.limit g.rows)) same (next_is_finished g.braid (stops_at g.braid g.limit g.rows) (g.last + suc k) (omega (arith, within, most)) below full next)
 
 -- ---- what is known of a degree
 
 pub stopped_ahead : (braid : BraidValue) (limit rows_limit m : ℕ) (next : Ahead) (stop : Stop) → next ≡ ahead.Stopped stop → IsAhead braid limit rows_limit m next → stops_at braid limit rows_limit m ≡ Some stop
 stopped_ahead braid limit rows_limit m next stop e known = subst (IsAhead braid limit rows_limit m) e known
 
-pub open_ahead : (braid : BraidValue) (limit rows_limit m : ℕ) (next : Ahead) (ps : List (List ℕ)) → next ≡ ahead.Open ps → IsAhead braid limit rows_limit m next → (stops_at braid limit rows_limit m ≡ None) × (ps ≡ products braid m)
+pub open_ahead : (braid : BraidValue) (limit rows_limit m : ℕ) (next : Ahead) (ps : Vec Products Global) → next ≡ ahead.Open ps → IsAhead braid limit rows_limit m next → (stops_at braid limit rows_limit m ≡ None) × AreOpen braid limit m ps.items
 open_ahead braid limit rows_limit m next ps e known = subst (IsAhead braid limit rows_limit m) e known
 
 pub same_ahead : (a b : BraidValue) (limit rows_limit m n : ℕ) (next : Ahead) → a ≡ b → m ≡ n → IsAhead a limit rows_limit (suc m) next → IsAhead b limit rows_limit (suc n) next
 same_ahead a b limit rows_limit m n next same e known = subst (λ k. IsAhead b limit rows_limit (suc k) next) e (subst (λ x. IsAhead x limit rows_limit (suc m) next) same known)
 
--- ---- the next degree on top
+-- ---- the end after a degree
 
--- what holds of levels with the next degree on top: their braid and last degree, what is known of the degree after it, and the end
-pub record IsOnTop (g : GradedValue) (levels : LevelsValue) (next : Ahead) (ended : Bool) (end : Option End) : Type 0 where
-  pub graded : IsGraded (graded_value levels g.limit g.rows ended)
-  pub ahead : IsAhead levels.braid g.limit g.rows (suc levels.last) next
-  pub end_is : end ≡ end_reached levels.braid g.limit g.rows levels.last
+pub after_empty : (braid : BraidValue) (limit rows_limit m : ℕ) → is_empty_degree is_in_kernel braid m ≡ true → end_after braid limit rows_limit m ≡ Some Closed
+unfolding end_after
+after_empty braid limit rows_limit m empty = ap (λ b. cond b (Some Closed) (option_map Stopped (stops_at braid limit rows_limit (suc m)))) empty
 
-pub on_top : (g : GradedValue) (levels : LevelsValue) (next : Ahead) (ended : Bool) (e : Option End) → IsGraded g → g.ended ≡ false → stops_at g.braid g.limit g.rows (suc g.last) ≡ None → levels.braid ≡ g.braid → levels.last ≡ suc g.last →
-    IsAhead g.braid g.limit g.rows (suc (suc g.last)) next → e ≡ end_known (is_empty_degree is_in_kernel levels.braid levels.last) next → ended ≡ is_some e → IsOnTop g levels next ended e
-on_top g levels next ended e h going free braid last ahead e_is ended_is =
-    let ended_known : ended ≡ is_some (end_known (is_empty_degree is_in_kernel g.braid (suc g.last)) next) =
-    ended_is ∙ ap is_some (e_is ∙ ap (λ b. end_known (is_empty_degree is_in_kernel b levels.last) next) braid ∙ ap (λ m. end_known (is_empty_degree is_in_kernel g.braid m) next) last) in
-    let there : IsAhead levels.braid g.limit g.rows (suc levels.last) next = same_ahead g.braid levels.braid g.limit g.rows (suc g.last) levels.last next (sym braid) (sym last) ahead in
-    record {
-      graded =
-          subst (λ b. IsGraded (record { braid = b; limit = g.limit; rows = g.rows; last = levels.last; ended = ended })) (sym braid)
-          (subst (λ m. IsGraded (record { braid = g.braid; limit = g.limit; rows = g.rows; last = m; ended = ended })) (sym last)
-          (subst (λ b. IsGraded (record { braid = g.braid; limit = g.limit; rows = g.rows; last = suc g.last; ended = b })) (sym ended_known) (graded_next g next h going free)));
-      ahead = there;
-      end_is =
-          e_is ∙ known_end levels.braid g.limit g.rows levels.last next h.most
-          (subst (λ b. Contains (finished_degrees b g.limit g.rows) levels.last) (sym braid) (subst (Contains (finished_degrees g.braid g.limit g.rows)) (sym last) (next_finished g h going free))) there;
-    }
+pub after_filled : (braid : BraidValue) (limit rows_limit m : ℕ) (stop : Option Stop) → is_empty_degree is_in_kernel braid m ≡ false → stop ≡ stops_at braid limit rows_limit (suc m) → end_after braid limit rows_limit m ≡ option_map Stopped stop
+unfolding end_after
+after_filled braid limit rows_limit m stop full e = ap (λ b. cond b (Some Closed) (option_map Stopped (stops_at braid limit rows_limit (suc m)))) full ∙ ap (option_map Stopped) (sym e)
+
+pub never_starved : (braid : BraidValue) (limit rows_limit m : ℕ) → end_after braid limit rows_limit m ≡ Some Starved → ⊥
+unfolding end_after
+never_starved braid limit rows_limit m e = at (is_empty_degree is_in_kernel braid m) (stops_at braid limit rows_limit (suc m)) e
+  where
+    at : (b : Bool) (o : Option Stop) → cond b (Some Closed) (option_map Stopped o) ≡ Some Starved → ⊥
+    at true o e = cc
+    at false None e = cc
+    at false (Some stop) e = cc

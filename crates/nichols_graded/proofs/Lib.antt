@@ -9,3 +9,6 @@ mod DegreeStops
 mod BlockSizes
 mod DegreeLists
 mod WaveRules
+mod Listed
+mod SurveyLaws
+mod WaveEnds

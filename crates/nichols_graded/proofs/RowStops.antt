@@ -1,5 +1,6 @@
 -- The first product of too many rows.
-use Rattle.std.proofs.Common.{◌≡◌, ℕ, suc, ◌+◌, ◌<◌, ◌≤◌, true, false, cond, List, length, drop, get_or, sym, ◌∙◌, ap, arith, nat_lt}
+use Rattle.std.proofs.Common.{◌≡◌, ℕ, zero, suc, ◌+◌, ◌<◌, ◌≤◌, true, false, cond, List, [], ◌∷◌, length, map, drop, get_or, refl, sym, ◌∙◌, ap, arith, nat_lt}
+use Rattle.nichols_tensor.specs.Positions.{word_at}
 use Rattle.std.specs.Prelude.{None, Some}
 use Rattle.std.proofs.Math.Seq.{drop-cons}
 use Rattle.std.proofs.lemmas.Bool.Decides.{nat_tests}
@@ -28,3 +29,9 @@ row_within limit m k counts less few =
 pub rows_end : (limit m k : ℕ) (counts : List ℕ) → length counts ≤ k → rows_stop limit m (suc k) (drop k counts) ≡ None
 unfolding rows_stop
 rows_end limit m k counts most = ap (rows_stop limit m (suc k)) (drop_all k counts most)
+
+-- the number at a place
+pub row_at : (f : List ℕ → ℕ) (gs : List (List ℕ)) (k : ℕ) → k < length gs → get_or (map f gs) k 0 ≡ f (word_at gs k)
+row_at f [] k less = absurd (omega (arith, less))
+row_at f (g ∷ gs) zero less = refl
+row_at f (g ∷ gs) (suc k) less = row_at f gs k (omega (arith, less))

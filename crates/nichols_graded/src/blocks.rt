@@ -1,20 +1,21 @@
-//! The blocks of the next degree, side by side.
+//! The values of the blocks of the next degrees.
 
-ghost use Rattle.std.specs.Prelude.{◌≡◌, ◌<◌, ◌≤◌, ⊤, IfOk, MatchOption, map, suc};
+ghost use Rattle.std.specs.Prelude.{◌≡◌, ◌+◌, ◌≤◌, IfOk, OnErr, length, suc};
 ghost use Rattle.std.specs.List.{list_all};
 ghost use Rattle.nichols_braid.specs.declared.TheConstants.{MOST_DEGREES, MOST_ROWS};
-ghost use Rattle.nichols_braid.specs.Products.{products};
-ghost use Rattle.nichols_value.specs.declared.value.BlockValue.TheVariants.{Rule};
 ghost use Rattle.nichols_value.specs.Worth.{worth};
-ghost use Rattle.nichols_block.specs.Levels.{rules_of};
+ghost use Rattle.nichols_layout.specs.declared.TheConstants.{MOST_WINDOW};
+ghost use Rattle.nichols_layout.specs.Keys.{AreLists};
+ghost use Rattle.nichols_layout.specs.Values.{AreRightLists};
+ghost use Rattle.nichols_crew.specs.Counting.{HasCounted, block_count};
 ghost use Rattle.nichols_crew.specs.Wave.{AreWithin};
 ghost use Rattle.nichols_graded.specs.Sizes.{is_rule};
 
 use nichols_block::{BlockValue, Levels, Shared};
 use nichols_braid::Products;
-use nichols_crew::wave;
+use nichols_crew::{Gate, Wave, wave};
+use nichols_layout::{by_degree, rooms};
 use std::alloc::{AllocError, Global};
-use std::slice;
 use std::thread::Threads;
 
 /// Whether a value is a rule.
@@ -28,40 +29,37 @@ fn is_rule(value: &Shared) -> bool
 }
 
 /// Whether each value is a rule.
-fn are_rules(values: &[Shared]) -> bool
+pub(crate) fn are_rules(values: &[Shared]) -> bool
     ensures { result ≡ list_all (λ v. is_rule (worth v)) values.now }
 {
     values.iter().all(|value| is_rule(value))
 }
 
-/// The rules of the blocks of the next degree, by product, made by so many workers, or `None` where there was no memory for one
-/// of them.
-pub(crate) fn next_values<R: Threads + Sync>(
+/// The values of the blocks of the degrees after the last one, of which `above` has the products: a list for each degree, by product.
+/// The gate is given the closed shelf through which they went.
+pub(crate) fn degree_values<R: Threads + Sync, G: Gate + Sync>(
     rt: &R,
     alloc: Global,
     levels: &Levels,
-    next: &Products,
+    above: &[Products],
     rows_limit: u32,
     workers: u32,
-) -> Result<Option<Vec<Shared>>, AllocError>
-    requires room { levels.now.last < MOST_DEGREES }
-    requires products { next.now ≡ products levels.now.braid (suc levels.now.last) }
+    gate: &mut G,
+) -> Result<Vec<Vec<Shared>>, AllocError>
+    requires some { 1 ≤ length above.now }
+    requires few { length above.now ≤ MOST_WINDOW }
+    requires room { levels.now.last + length above.now ≤ MOST_DEGREES }
+    requires above { AreLists levels.now.braid (suc levels.now.last) above.now }
     requires some_rows { 1 ≤ rows_limit }
     requires few_rows { rows_limit ≤ MOST_ROWS }
-    requires within { AreWithin levels.now.braid rows_limit (suc levels.now.last) }
+    requires within { AreWithin levels.now.braid rows_limit levels.now.last }
     requires some_workers { 1 ≤ workers }
-    ensures { IfOk result (λ r. MatchOption r ⊤ (λ vs. map worth vs.items ≡ map Rule (rules_of levels.now.braid (suc levels.now.last)))) }
+    ensures values { IfOk result (λ r. AreRightLists levels.now.braid rows_limit (suc levels.now.last) (length above.now) r.items) }
+    ensures counted { IfOk result (λ _. HasCounted (block_count levels.now.braid (suc levels.now.last) (length above.now)) (G.count gate.old) (G.count gate.new)) }
+    ensures uncounted { OnErr result (G.count gate.new ≡ G.count gate.old) }
 {
-    let values = wave(
-        rt,
-        alloc,
-        levels,
-        slice::from_ref(next),
-        rows_limit,
-        workers,
-    )?;
-    if !are_rules(values.as_slice()) {
-        return Ok(None);
-    }
-    Ok(Some(values))
+    let lists = rooms(alloc, above)?;
+    let Wave { values, closed } = wave(rt, alloc, levels, above, rows_limit, workers, gate)?;
+    gate.closed(closed);
+    Ok(by_degree(lists, levels, above, values))
 }

@@ -1,6 +1,6 @@
 //! The number of candidates of each product.
 
-ghost use Rattle.std.specs.Prelude.{◌≡◌, ◌<◌, ◌≤◌, ℕ, IfOk, length, map, slice_index, suc};
+ghost use Rattle.std.specs.Prelude.{◌≡◌, ◌<◌, ◌≤◌, ℕ, length, map, slice_index, suc, vec_capacity};
 ghost use Rattle.nichols_braid.specs.Kernel.{is_killed};
 ghost use Rattle.nichols_braid.specs.Product.{product_before};
 ghost use Rattle.nichols_braid.specs.Products.{products, rows};
@@ -11,7 +11,6 @@ ghost use Rattle.nichols_graded.specs.Sizes.{AreSizes, size_of};
 
 use nichols_block::{BlockValue, Shared};
 use nichols_braid::{Braid, Product, Products};
-use std::alloc::{AllocError, Global};
 
 /// The number of least words of a block, where the value is its rule.
 fn size_of(value: &Shared) -> u64
@@ -24,16 +23,17 @@ fn size_of(value: &Shared) -> u64
     }
 }
 
-/// The numbers of least words of blocks.
-pub(crate) fn sizes_of(alloc: Global, values: &[Shared]) -> Result<Vec<u64>, AllocError>
-    ensures sizes { IfOk result (λ r. r.items ≡ map (λ v. size_of (worth v)) values.now) }
-    ensures small { IfOk result (λ r. (k : ℕ) → slice_index r.items k < DIMENSION_BOUND) }
+/// Puts the numbers of least words of blocks into a list that has room for them, in place of what was there.
+pub(crate) fn put_sizes(sizes: &mut Vec<u64>, values: &[Shared])
+    requires room { length values.now ≤ vec_capacity sizes.old }
+    ensures sizes { sizes.new.items ≡ map (λ v. size_of (worth v)) values.now }
+    ensures small { (k : ℕ) → slice_index sizes.new.items k < DIMENSION_BOUND }
+    ensures room { vec_capacity sizes.new ≡ vec_capacity sizes.old }
 {
-    let mut sizes = Vec::new(alloc);
+    sizes.clear();
     for value in values {
-        sizes.push(size_of(value))?;
+        sizes.push_reserved(size_of(value));
     }
-    Ok(sizes)
 }
 
 /// The number of least words of the block of a degree and the product before a letter, by the numbers of all blocks of the degree.
@@ -61,7 +61,13 @@ fn size_before(
 
 /// The number of candidates of a product in the degree after one, by the numbers of least words of that degree's blocks: each least
 /// word of the block before a letter makes one with that letter behind.
-fn row_count(braid: &Braid, degree: u32, below: &Products, sizes: &[u64], product: &Product) -> u64
+pub(crate) fn row_count(
+    braid: &Braid,
+    degree: u32,
+    below: &Products,
+    sizes: &[u64],
+    product: &Product,
+) -> u64
     requires products { below.now ≡ products braid.now degree }
     requires sizes { AreSizes braid.now degree sizes.now }
     requires product { length product.now ≡ braid.now.letters }
@@ -73,25 +79,4 @@ fn row_count(braid: &Braid, degree: u32, below: &Products, sizes: &[u64], produc
         count += size_before(braid, degree, below, sizes, product, a + 1);
     }
     count
-}
-
-/// The number of candidates of each product of the degree after one.
-pub(crate) fn row_counts(
-    alloc: Global,
-    braid: &Braid,
-    degree: u32,
-    below: &Products,
-    sizes: &[u64],
-    next: &Products,
-) -> Result<Vec<u64>, AllocError>
-    requires products { below.now ≡ products braid.now degree }
-    requires sizes { AreSizes braid.now degree sizes.now }
-    requires next { next.now ≡ products braid.now (suc degree) }
-    ensures { IfOk result (λ r. r.items ≡ map (rows is_killed braid.now (suc degree)) next.now) }
-{
-    let mut counts = Vec::new(alloc);
-    for k in 0..next.len() {
-        counts.push(row_count(braid, degree, below, sizes, next.at(k)))?;
-    }
-    Ok(counts)
 }

@@ -32,7 +32,7 @@ pub enum End {
 /// What one call made.
 #[derive(Clone, Copy, Debug)]
 pub struct Advance {
-    /// How many degrees were finished, 0 or 1.
+    /// How many degrees were finished: at most the window.
     pub finished: u32,
     /// The end, where it was reached in this call.
     pub end: Option<End>,

@@ -1,30 +1,32 @@
 //! Graded algebras.
 
-ghost use Rattle.std.specs.Prelude.{◌≡◌, ◌≤◌, ◌<◌, ◌+◌, ◌^◌, IfOk, IsOk, OnOk, OnErr, None, Some, false, true, suc, is_some, map, option_map, sum};
+ghost use Rattle.std.specs.Prelude.{◌≡◌, ◌⊎◌, ◌≤◌, ◌<◌, ◌+◌, ◌^◌, IfOk, OnOk, OnErr, None, Some, false, true, suc, is_some, option_map, sum, ℕ, drop, length, slice_index_or};
 ghost use Rattle.nichols_braid.specs.declared.TheConstants.{MOST_DEGREES, MOST_ROWS};
 ghost use Rattle.nichols_braid.specs.Kernel.{is_in_kernel};
 ghost use Rattle.nichols_braid.specs.Least.{basis, relations};
 ghost use Rattle.nichols_braid.specs.End.{dimension, is_empty_degree};
-ghost use Rattle.nichols_value.specs.declared.value.BlockValue.TheVariants.{Rule};
-ghost use Rattle.nichols_value.specs.Worth.{worth};
-ghost use Rattle.nichols_block.specs.Levels.{rules_of};
 ghost use Rattle.nichols_graded.specs.declared.TheConstants.{DIMENSION_BOUND};
 ghost use Rattle.nichols_graded.specs.Ends.{dimensions_up_to};
 ghost use Rattle.nichols_graded.specs.Factors.{factors_of};
-ghost use Rattle.nichols_graded.specs.Ahead.{end_known, IsOpen};
-ghost use Rattle.nichols_graded.specs.Graded.{first_degree, IsGraded, TellsEnd};
+ghost use Rattle.nichols_layout.specs.declared.TheConstants.{MOST_WINDOW};
+ghost use Rattle.nichols_layout.specs.Keys.{AreLists};
+ghost use Rattle.nichols_crew.specs.Counting.{HasCounted, block_count};
+ghost use Rattle.nichols_graded.specs.Ahead.{AreRulesOf};
+ghost use Rattle.nichols_graded.specs.Graded.{first_degree, IsGraded, IsOpenWhereStarved, TellsEnd};
 
-use crate::ahead::Ahead;
+use crate::ahead::{Ahead, list_on};
+use crate::blocks::degree_values;
 use crate::ends::{Advance, End};
 use crate::factors::factors_of;
 use crate::merged::{degree_relations, least_words};
-use crate::next::{NextDegree, first_ahead, next_degree};
+use crate::next::first_ahead;
+use crate::survey::survey;
 use nichols_block::{Levels, Shared};
-use nichols_braid::Braid;
+use nichols_braid::{Braid, MOST_PRODUCTS, Products};
+use nichols_crew::Gate;
 use nichols_words::{Relation, Word};
 use std::alloc::{AllocError, Global};
 use std::marker::Model;
-use std::mem;
 use std::thread::Threads;
 
 /// The Nichols algebra of a braid, as far as its degrees are finished.
@@ -33,59 +35,71 @@ pub struct Graded {
     levels: Levels,
     degree_limit: u32,
     rows_limit: u32,
+    window: u32,
     ahead: Ahead,
     ended: bool,
 }
 
 impl Model for Graded {
-    ghost use Rattle.std.specs.Prelude.{◌≡◌, suc, false};
+    ghost use Rattle.std.specs.Prelude.{◌≡◌, ◌+◌, ◌≤◌, suc, false};
     ghost use Rattle.nichols_graded.specs.Ahead.{IsAhead};
     ghost use Rattle.nichols_graded.specs.Graded.{GradedValue, IsGraded, graded_value};
 
     ghost Value = { GradedValue };
 
-    ghost view = { λ g. graded_value g.levels g.degree_limit g.rows_limit g.ended };
+    ghost view = { λ g. graded_value g.levels g.degree_limit g.rows_limit g.window g.ended };
 
-    ghost invariant = { λ g. IsGraded (graded_value g.levels g.degree_limit g.rows_limit g.ended)
-        × (g.ended ≡ false → IsAhead g.levels.braid g.degree_limit g.rows_limit (suc g.levels.last) g.ahead) };
+    ghost invariant = { λ g. IsGraded (graded_value g.levels g.degree_limit g.rows_limit g.window g.ended)
+        × (g.ended ≡ false → IsAhead g.levels.braid g.degree_limit g.rows_limit (suc g.levels.last) g.ahead)
+        × (g.degree_limit ≤ g.levels.last + g.levels.spare) };
 }
 
 impl Graded {
-    /// The algebra of a braid with degree 0 finished; the degree limit is at most [`nichols_braid::MOST_DEGREES`], and the rows limit 1 to
-    /// [`nichols_braid::MOST_ROWS`].
+    /// The algebra of a braid with degree 0 finished; the degree limit is at most [`nichols_braid::MOST_DEGREES`], the rows limit 1 to
+    /// [`nichols_braid::MOST_ROWS`], and the window, the number of degrees that one call makes at once, 1 to
+    /// [`nichols_layout::MOST_WINDOW`]. Room for all degrees is made here.
     pub fn start(
         alloc: Global,
         braid: Braid,
         degree_limit: u32,
         rows_limit: u32,
+        window: u32,
     ) -> Result<Graded, AllocError>
         requires degrees { degree_limit ≤ MOST_DEGREES }
         requires some_rows { 1 ≤ rows_limit }
         requires few_rows { rows_limit ≤ MOST_ROWS }
-        ensures { IfOk result (λ g. g ≡ first_degree braid degree_limit rows_limit) }
+        requires some_window { 1 ≤ window }
+        requires few_window { window ≤ MOST_WINDOW }
+        ensures { IfOk result (λ g. g ≡ first_degree braid degree_limit rows_limit window) }
     {
         let _field = braid.field();
-        let levels = Levels::start(alloc, braid)?;
+        let mut levels = Levels::start(alloc, braid)?;
+        levels.reserve(degree_limit)?;
         let ahead = first_ahead(alloc, &levels, degree_limit, rows_limit)?;
         Ok(Graded {
             levels,
             degree_limit,
             rows_limit,
+            window,
             ahead,
             ended: false,
         })
     }
 
-    /// Finishes the next degree, where nothing stops it, and says whether the end is reached. Its blocks are made by so many workers.
+    /// Finishes the next degrees, as many as the window has where nothing stops one, and says whether the end is reached. Their blocks
+    /// are made by so many workers, who share a shelf; the gate is told of them, and given the closed shelf.
     ///
     /// The end is given in the call in which the last degree is finished; where degree 1 is stopped, so that degree 0 is the only
-    /// one, in the first call. `Starved` is given where there was no memory for a block of the next degree, which isn't finished then.
-    /// After an error the algebra is as it was, and the call may be made again.
-    pub fn advance<R: Threads + Sync>(
+    /// one, in the first call. What was made beyond the end is dropped. `Starved` is given where there was no memory for a block of
+    /// the next degree, which isn't finished then, nor is any behind it. After an error the algebra is as it was, and the call may
+    /// be made again. All that is needed after the last publication is made before the first take, so an error comes before any block
+    /// is made, or where there is no memory to close the shelf; the gate is given no shelf then.
+    pub fn advance<R: Threads + Sync, G: Gate + Sync>(
         &mut self,
         rt: &R,
         alloc: Global,
         workers: u32,
+        gate: &mut G,
     ) -> Result<Advance, AllocError>
         requires going { self.old.ended ≡ false }
         requires some_workers { 1 ≤ workers }
@@ -93,46 +107,56 @@ impl Graded {
         ensures limit { OnOk result (self.new.limit ≡ self.old.limit) }
         ensures rows { OnOk result (self.new.rows ≡ self.old.rows) }
         ensures finished { IfOk result (λ a. self.new.last ≡ self.old.last + a.finished) }
-        ensures one { IfOk result (λ a. a.finished ≤ 1) }
-        ensures further { IfOk result (λ a. a.end ≡ None → a.finished ≡ 1) }
-        ensures end { IfOk result (λ a. TellsEnd self.new a.finished a.end) }
+        ensures window { OnOk result (self.new.window ≡ self.old.window) }
+        ensures most { IfOk result (λ a. a.finished ≤ self.old.window) }
+        ensures further { IfOk result (λ a. a.end ≡ None → a.finished ≡ self.old.window) }
+        ensures end { IfOk result (λ a. TellsEnd self.new a.end) }
+        ensures unreached { IfOk result (λ a. IsOpenWhereStarved self.new a.end) }
         ensures ended { IfOk result (λ a. self.new.ended ≡ is_some a.end) }
+        ensures counted { IfOk result (λ a. HasCounted (block_count self.old.braid (suc self.old.last) a.finished) (G.count gate.old) (G.count gate.new)) }
         ensures kept { OnErr result (self.new ≡ self.old) }
+        ensures uncounted { OnErr result (G.count gate.new ≡ G.count gate.old) }
     {
-        let products = match &self.ahead {
-            Ahead::Open(products) => products,
+        let lists = match &mut self.ahead {
+            Ahead::Open(lists) => lists,
             Ahead::Stopped(stop) => {
                 let end = Some(End::Stopped(*stop));
                 self.ended = true;
                 return Ok(Advance { finished: 0, end });
             }
         };
-        let next = next_degree(
+        let first = self.levels.last() + 1;
+        let behind = list_on(
+            alloc,
+            self.levels.braid(),
+            first,
+            lists,
+            self.degree_limit,
+            self.window + 1,
+        )?;
+        let sizes = Vec::with_capacity(alloc, MOST_PRODUCTS)?;
+        let count = fewer(lists.len(), self.window);
+        let values = degree_values(
             rt,
             alloc,
             &self.levels,
-            products,
-            self.degree_limit,
+            &lists[..count],
             self.rows_limit,
             workers,
+            gate,
         )?;
-        match next {
-            None => {
-                self.ended = true;
-                Ok(Advance {
-                    finished: 0,
-                    end: Some(End::Starved),
-                })
-            }
-            Some(NextDegree { values, ahead }) => {
-                self.levels.reserve(1)?;
-                let reached = mem::replace(&mut self.ahead, ahead);
-                put_on(&mut self.levels, reached, values)?;
-                let end = end_of_levels(&self.levels, &self.ahead);
-                self.ended = end.is_some();
-                Ok(Advance { finished: 1, end })
-            }
-        }
+        let advance = survey(
+            self.levels.braid(),
+            first,
+            lists.as_slice(),
+            behind,
+            values.as_slice(),
+            sizes,
+            (self.degree_limit, self.rows_limit),
+        );
+        put_on(&mut self.levels, lists, values, advance.finished);
+        self.ended = advance.end.is_some();
+        Ok(advance)
     }
 
     /// Whether the end was reached.
@@ -212,31 +236,37 @@ impl Graded {
     }
 }
 
-/// Puts the next degree, which is open, on top.
-fn put_on(levels: &mut Levels, next: Ahead, values: Vec<Shared>) -> Result<(), AllocError>
-    requires room { levels.old.last < MOST_DEGREES }
-    requires open { IsOpen levels.old.braid (suc levels.old.last) next }
-    requires rules { map worth values.items ≡ map Rule (rules_of levels.old.braid (suc levels.old.last)) }
-    ensures braid { levels.new.braid ≡ levels.old.braid }
-    ensures pushed { OnOk result (levels.new.last ≡ suc levels.old.last) }
-    ensures in_room { 1 ≤ levels.old.spare → IsOk result }
+/// The lesser of two numbers.
+fn fewer(count: usize, most: u32) -> usize
+    ensures inside { result ≤ count }
+    ensures few { result ≤ most }
+    ensures one { (result ≡ most) ⊎ (result ≡ count) }
 {
-    match next {
-        Ahead::Open(products) => levels.push(products, values),
-        Ahead::Stopped(_) => unreachable!(),
+    if count < most as usize {
+        count
+    } else {
+        most as usize
     }
 }
 
-/// The end that the levels have reached, by what is known of the degree after the last one.
-fn end_of_levels(levels: &Levels, ahead: &Ahead) -> Option<End>
-    ensures { result ≡ end_known (is_empty_degree is_in_kernel levels.now.braid levels.now.last) ahead.now }
+/// Puts the first so many degrees of a wave on top, for which there is room.
+fn put_on(levels: &mut Levels, lists: &mut Vec<Products>, mut values: Vec<Vec<Shared>>, count: u32)
+    requires room { levels.old.last + count ≤ MOST_DEGREES }
+    requires spare { count ≤ levels.old.spare }
+    requires lists { AreLists levels.old.braid (suc levels.old.last) lists.old.items }
+    requires listed { count ≤ length lists.old.items }
+    requires valued { count ≤ length values.items }
+    requires rules { (i : ℕ) (d : _) → i < count → AreRulesOf levels.old.braid (suc levels.old.last + i) (slice_index_or values.items i d).items }
+    ensures braid { levels.new.braid ≡ levels.old.braid }
+    ensures last { levels.new.last ≡ levels.old.last + count }
+    ensures spare { levels.new.spare + count ≡ levels.old.spare }
+    ensures lists { lists.new.items ≡ drop count lists.old.items }
 {
-    let _field = levels.braid().field();
-    if levels.closed() {
-        return Some(End::Closed);
-    }
-    match ahead {
-        Ahead::Stopped(stop) => Some(End::Stopped(*stop)),
-        Ahead::Open(_) => None,
+    for _ in 0..count {
+        let products = lists.remove(0);
+        let rules = values.remove(0);
+        let Ok(()) = levels.push(products, rules) else {
+            unreachable!()
+        };
     }
 }

@@ -12,6 +12,7 @@ mod graded;
 pub mod laws;
 mod merged;
 mod next;
+mod survey;
 
 /// No dimension is as great: so many words have no room in memory.
 pub const DIMENSION_BOUND: u64 = 1 << 57;

@@ -1,5 +1,7 @@
 pub mod Found
 pub mod Values
+pub mod Entries
+pub mod Orders
 pub mod ReadKinds
 pub mod Searches
 pub mod KeyOrder
@@ -8,3 +10,4 @@ pub mod ValueLaws
 pub mod DueLaws
 pub mod OnLiterals
 mod WorkedDocuments
+mod Limits

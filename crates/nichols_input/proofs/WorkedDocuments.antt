@@ -1,14 +1,14 @@
 -- Worked rows: documents, what they say, and why they are refused.
 use Rattle.std.proofs.Common.{◌≡◌, ℕ, List, [], ◌∷◌, ◌++◌, Ok, Err, codes, refl}
 use Rattle.std.specs.Prelude.{pos}
-use Rattle.nichols_field.specs.Field.{prime_field}
+use Rattle.nichols_field.specs.Field.{prime_field, quadratic_field}
 use Rattle.nichols_tensor.specs.Combination.{Combination}
-use Rattle.nichols_braid.specs.Faults.{letters, not_distributive, cocycle_shape}
-use Rattle.nichols_expression.specs.declared.faults.Cause.TheVariants.{Letter}
+use Rattle.nichols_braid.specs.Faults.{letters, not_bijective, not_distributive, cocycle_shape}
+use Rattle.nichols_expression.specs.declared.faults.Cause.TheVariants.{Byte, Letter}
 use Rattle.nichols_tensor.proofs.Terms.{term}
 use Rattle.nichols_input.specs.Document.{DocumentValue, document_in}
-use Rattle.nichols_input.specs.Refusal.{not_toml, missing_key, unknown_key, wrong_kind, modulus, tables, expression}
-use Rattle.nichols_input.specs.declared.key.Key.TheVariants.{Modulus, Rack, Cocycle, Expressions}
+use Rattle.nichols_input.specs.Refusal.{not_toml, missing_key, unknown_key, wrong_kind, modulus, root, tables, order, expression}
+use Rattle.nichols_input.specs.declared.key.Key.TheVariants.{Modulus, Extension, Rack, Cocycle, Order, Expressions}
 use Rattle.nichols_input.proofs.OnLiterals.{input_on_literals}
 
 -- ---- the three transpositions
@@ -30,6 +30,7 @@ three_with fs = record {
     rack = 1 ∷ 3 ∷ 2 ∷ 3 ∷ 2 ∷ 1 ∷ 2 ∷ 1 ∷ 3 ∷ [];
     cocycle = 100 ∷ 100 ∷ 100 ∷ 100 ∷ 100 ∷ 100 ∷ 100 ∷ 100 ∷ 100 ∷ [];
   };
+  order = 1 ∷ 2 ∷ 3 ∷ [];
   expressions = fs;
 }
 
@@ -44,6 +45,110 @@ one_scalar = refl
 with_expressions : document_in (modulus_line ++ rack_line ++ cocycle_line ++ codes "expressions = [\" - 1.2 +3.1\", \"0\"]\n") ≡ Ok (three_with ((term (1 ∷ 2 ∷ []) 100 ∷ term (3 ∷ 1 ∷ []) 1 ∷ []) ∷ [] ∷ []))
 unfolding input_on_literals
 with_expressions = refl
+
+-- ---- orders
+
+-- the letters 3, 1, 2 have the ranks 1, 2, 3
+by_ranks : document_in (modulus_line ++ rack_line ++ cocycle_line ++ codes "order = [3, 1, 2]\nexpressions = [\" - 1.2 +3.1\"]\n")
+    ≡ Ok (record { braid = (three_with []).braid; order = 3 ∷ 1 ∷ 2 ∷ []; expressions = (term (1 ∷ 2 ∷ []) 1 ∷ term (2 ∷ 3 ∷ []) 100 ∷ []) ∷ [] })
+unfolding input_on_literals
+by_ranks = refl
+
+abbrev four_lines : List ℕ
+four_lines = codes "modulus = 5\nrack = [[2, 3, 4, 1], [2, 3, 4, 1], [2, 3, 4, 1], [2, 3, 4, 1]]\ncocycle = [[1, 2, 3, 4], [1, 2, 3, 4], [1, 2, 3, 4], [1, 2, 3, 4]]\n"
+
+-- each letter maps 1 to 2 to 3 to 4 to 1, and the scalars are the second letter
+four_letters : document_in (four_lines ++ codes "order = [2, 3, 1, 4]\nexpressions = ['1.2.3']\n") ≡ Ok (record {
+  braid = record {
+    field = prime_field (pos 5);
+    letters = 4;
+    rack = 2 ∷ 4 ∷ 1 ∷ 3 ∷ 2 ∷ 4 ∷ 1 ∷ 3 ∷ 2 ∷ 4 ∷ 1 ∷ 3 ∷ 2 ∷ 4 ∷ 1 ∷ 3 ∷ [];
+    cocycle = 2 ∷ 3 ∷ 1 ∷ 4 ∷ 2 ∷ 3 ∷ 1 ∷ 4 ∷ 2 ∷ 3 ∷ 1 ∷ 4 ∷ 2 ∷ 3 ∷ 1 ∷ 4 ∷ [];
+  };
+  order = 2 ∷ 3 ∷ 1 ∷ 4 ∷ [];
+  expressions = (term (3 ∷ 1 ∷ 2 ∷ []) 1 ∷ []) ∷ [];
+})
+unfolding input_on_literals
+four_letters = refl
+
+equal_entries : document_in (modulus_line ++ rack_line ++ cocycle_line ++ codes "order = [1, 1, 2]\n") ≡ Err (order 2)
+unfolding input_on_literals
+equal_entries = refl
+
+missing_entry : document_in (modulus_line ++ rack_line ++ cocycle_line ++ codes "order = [1, 2]\nexpressions = ['x']\n") ≡ Err (order 3)
+unfolding input_on_literals
+missing_entry = refl
+
+surplus_entry : document_in (modulus_line ++ rack_line ++ cocycle_line ++ codes "order = [1, 2, 3, 1]\n") ≡ Err (order 4)
+unfolding input_on_literals
+surplus_entry = refl
+
+no_entries : document_in (modulus_line ++ rack_line ++ cocycle_line ++ codes "order = []\n") ≡ Err (order 1)
+unfolding input_on_literals
+no_entries = refl
+
+-- the braid's fault comes first, by the letters of the document
+braid_before_order : document_in (modulus_line ++ codes "rack = [[1, 2, 3], [1, 2, 3], [1, 1, 3]]\ncocycle = 1\norder = [3, 1, 1]\n") ≡ Err (tables (not_bijective 3 1 2 1))
+unfolding input_on_literals
+braid_before_order = refl
+
+wrong_kind_of_order : document_in (modulus_line ++ rack_line ++ cocycle_line ++ codes "order = [1, 'a']\nexpressions = 1\n") ≡ Err (wrong_kind Order)
+unfolding input_on_literals
+wrong_kind_of_order = refl
+
+-- ---- extensions
+
+abbrev two_lines : List ℕ
+two_lines = codes "modulus = 2\nextension = [1, 1]\nrack = [[1, 2], [1, 2]]\ncocycle = [[1, [0, 1]], [[1, 1], 1]]\n"
+
+over_four_elements : document_in (two_lines ++ codes "expressions = ['(0,1)*2.1']\n") ≡ Ok (record {
+  braid = record { field = quadratic_field (prime_field (pos 2)) (pos 1) (pos 1); letters = 2; rack = 1 ∷ 2 ∷ 1 ∷ 2 ∷ []; cocycle = 1 ∷ 2 ∷ 3 ∷ 1 ∷ [] };
+  order = 1 ∷ 2 ∷ [];
+  expressions = (term (2 ∷ 1 ∷ []) 2 ∷ []) ∷ [];
+})
+unfolding input_on_literals
+over_four_elements = refl
+
+one_pair : document_in (codes "modulus = 3\nextension = [0, 2]\nrack = [[1]]\ncocycle = [0, 1]\n")
+    ≡ Ok (record { braid = record { field = quadratic_field (prime_field (pos 3)) (pos 0) (pos 2); letters = 1; rack = 1 ∷ []; cocycle = 3 ∷ [] }; order = 1 ∷ []; expressions = [] })
+unfolding input_on_literals
+one_pair = refl
+
+pair_cut_off : document_in (two_lines ++ codes "expressions = ['(0,1)*2.1', '(1,1*1']\n") ≡ Err (expression 2 5 Byte)
+unfolding input_on_literals
+pair_cut_off = refl
+
+least_root_is_told : document_in (codes "modulus = 7\nextension = [0, 2]\nrack = [[1]]\ncocycle = 1\n") ≡ Err (root 3)
+unfolding input_on_literals
+least_root_is_told = refl
+
+modulus_before_root : document_in (codes "modulus = 15\nextension = [0, 1]\nrack = [[1]]\ncocycle = 1\n") ≡ Err (modulus (pos 15))
+unfolding input_on_literals
+modulus_before_root = refl
+
+wrong_kind_of_extension : document_in (codes "modulus = 2\nextension = [1, 1, 1]\nrack = 1\ncocycle = 1\n") ≡ Err (wrong_kind Extension)
+unfolding input_on_literals
+wrong_kind_of_extension = refl
+
+pair_without_extension : document_in (codes "modulus = 2\nrack = [[1]]\ncocycle = [0, 1]\norder = 1\n") ≡ Err (wrong_kind Cocycle)
+unfolding input_on_literals
+pair_without_extension = refl
+
+table_of_one_letter : document_in (codes "modulus = 2\nextension = [1, 1]\nrack = [[1]]\ncocycle = [[0, 1]]\n") ≡ Err (tables (cocycle_shape 1))
+unfolding input_on_literals
+table_of_one_letter = refl
+
+-- ---- what the library reads beyond TOML 1.0
+
+-- newlines and a last comma in inline tables
+inline_table : document_in (modulus_line ++ rack_line ++ cocycle_line ++ codes "colour = { a = 1,\n b = 2, }\n") ≡ Err (unknown_key (codes "colour"))
+unfolding input_on_literals
+inline_table = refl
+
+-- the escapes `\x41` and `\e`
+escapes : document_in (modulus_line ++ rack_line ++ cocycle_line ++ codes "expressions = [\"\\x31\", \"\\e\"]\n") ≡ Err (expression 2 1 Byte)
+unfolding input_on_literals
+escapes = refl
 
 -- ---- documents that are refused
 

@@ -3,13 +3,15 @@ use Rattle.std.specs.Prelude.{ℕ, Bool, List, [], ◌∷◌, codes, map}
 use Rattle.std.specs.List.{list_any}
 use Rattle.std.specs.Str.{bytes_eq}
 use Rattle.nichols_input.specs.declared.key.Key.{Key}
-use Rattle.nichols_input.specs.declared.key.Key.TheVariants.{Modulus, Rack, Cocycle, Expressions}
+use Rattle.nichols_input.specs.declared.key.Key.TheVariants.{Modulus, Extension, Rack, Cocycle, Order, Expressions}
 
 -- how a key is written
 abbrev pub key_name : Key → List ℕ
 key_name Modulus = codes "modulus"
+key_name Extension = codes "extension"
 key_name Rack = codes "rack"
 key_name Cocycle = codes "cocycle"
+key_name Order = codes "order"
 key_name Expressions = codes "expressions"
 
 -- the keys that each document has
@@ -18,7 +20,7 @@ needed_keys = Modulus ∷ Rack ∷ Cocycle ∷ []
 
 -- the keys that a document may have
 abbrev pub known_keys : List Key
-known_keys = Modulus ∷ Rack ∷ Cocycle ∷ Expressions ∷ []
+known_keys = Modulus ∷ Extension ∷ Rack ∷ Cocycle ∷ Order ∷ Expressions ∷ []
 
 -- whether a text is one of them
 abbrev pub is_known : List ℕ → Bool

@@ -1,24 +1,25 @@
 -- When a document is read, and when each refusal is told, in the words of the format.
-use Rattle.std.specs.Prelude.{◌≡◌, ◌↔◌, ◌≤◌, ◌+◌, ℕ, suc, ℤ, Bool, true, false, not, List, ◌∷◌, ◌++◌, length, map, None, Some, is_none, option_and_then, Result, Ok, Err}
+use Rattle.std.specs.Prelude.{◌≡◌, ◌↔◌, ◌≤◌, ◌+◌, ℕ, suc, Bool, true, false, not, List, ◌∷◌, ◌++◌, length, map, None, Some, is_none, option_and_then, Result, Ok, Err}
 use Rattle.std.specs.Cmp.Lexicographic.{slice_cmp}
 use Rattle.std.specs.List.{list_all, Contains}
 use Rattle.std.specs.Ordering.{nat_cmp, is_lt}
 use Rattle.std.specs.Result.{is_ok}
-use Rattle.nichols_field.specs.Field.{prime_field, is_modulus_integer}
+use Rattle.nichols_field.specs.Field.{FieldValue}
+use Rattle.nichols_field.specs.declared.FieldFault.{FieldFault}
 use Rattle.nichols_tensor.specs.Combination.{Combination}
 use Rattle.nichols_braid.specs.Braid.{BraidValue}
-use Rattle.nichols_braid.specs.GivenScalars.{GivenScalars}
 use Rattle.nichols_braid.specs.Faults.{TableFault, braid_of}
+use Rattle.nichols_braid.specs.Order.{relabelled}
 use Rattle.nichols_expression.specs.Reader.{Fault, expression_of}
 use Rattle.nichols_expression.specs.declared.faults.Cause.{Cause}
 use Rattle.nichols_expression.specs.declared.faults.Cause.TheVariants.{Surplus}
 use Rattle.nichols_expression.specs.declared.TheConstants.{EXPRESSION_LIMIT}
 use Rattle.nichols_input.specs.declared.key.Key.{Key}
-use Rattle.nichols_input.specs.declared.key.Key.TheVariants.{Modulus, Rack, Cocycle, Expressions}
+use Rattle.nichols_input.specs.declared.key.Key.TheVariants.{Modulus, Extension, Rack, Cocycle, Order, Expressions}
 use Rattle.nichols_input.specs.Keys.{needed_keys, known_keys, is_known}
-use Rattle.nichols_input.specs.Shapes.{as_rows, as_scalars}
-use Rattle.nichols_input.specs.Document.{DocumentValue, at_key, keys_in, has_wrong_kind, texts_of, table_in, document_in}
-use Rattle.nichols_input.specs.Refusal.{Refusal, not_toml, missing_key, unknown_key, wrong_kind, modulus, tables, expression}
+use Rattle.nichols_input.specs.Shapes.{as_integers, as_rows, as_pair, as_scalars}
+use Rattle.nichols_input.specs.Document.{DocumentValue, Given, at_key, keys_in, is_extended, has_wrong_kind, may_be, texts_of, field_of, order_of, table_in, document_in}
+use Rattle.nichols_input.specs.Refusal.{Refusal, not_toml, missing_key, unknown_key, wrong_kind, field_refusal, tables, order, expression}
 use Rattle.toml.specs.Data.{Members, as_integer}
 
 -- the entry is the first along a list that meets a test
@@ -43,26 +44,36 @@ HasNeededKeys ms = list_all (λ key. not (is_none (at_key key ms))) needed_keys 
 abbrev pub HasKeys : Members → Type 0
 HasKeys ms = HasNeededKeys ms × (list_all (λ text. not (not (is_known text))) (keys_in ms) ≡ true)
 
--- what stands at the keys of a table, each value of its kind
-pub record Holds (ms : Members) (p : ℤ) (rows : List (List ℤ)) (scalars : GivenScalars) (texts : List (List ℕ)) : Type 0 where
+-- this stands at the keys of a table, each value of its kind
+pub record Holds (ms : Members) (given : Given) : Type 0 where
   pub keys : HasKeys ms
-  pub at_modulus : option_and_then as_integer (at_key Modulus ms) ≡ Some p
-  pub at_rack : option_and_then as_rows (at_key Rack ms) ≡ Some rows
-  pub at_cocycle : option_and_then as_scalars (at_key Cocycle ms) ≡ Some scalars
-  pub at_expressions : texts_of (at_key Expressions ms) ≡ Some texts
+  pub at_modulus : option_and_then as_integer (at_key Modulus ms) ≡ Some given.modulus
+  pub at_extension : may_be as_pair (at_key Extension ms) ≡ Some given.extension
+  pub at_rack : option_and_then as_rows (at_key Rack ms) ≡ Some given.rows
+  pub at_cocycle : option_and_then (as_scalars (is_extended ms)) (at_key Cocycle ms) ≡ Some given.scalars
+  pub at_order : may_be as_integers (at_key Order ms) ≡ Some given.order
+  pub at_expressions : texts_of (at_key Expressions ms) ≡ Some given.texts
 
 -- the texts are expressions, as many as a document may have, with these values in order
-abbrev pub HaveValues : BraidValue → List (List ℕ) → List Combination → Type 0
-HaveValues braid texts fs = (length texts ≤ EXPRESSION_LIMIT) × (map (expression_of braid) texts ≡ map Ok fs)
+abbrev pub HaveValues : BraidValue → List ℕ → List (List ℕ) → List Combination → Type 0
+HaveValues braid list texts fs = (length texts ≤ EXPRESSION_LIMIT) × (map (expression_of braid list) texts ≡ map Ok fs)
 
 -- the first fault of the texts: at the text of this number, from 1, or for a text that is one too many
-pub data IsFirstFault (braid : BraidValue) (texts : List (List ℕ)) : ℕ → ℕ → Cause → Type 0 where
+pub data IsFirstFault (braid : BraidValue) (list : List ℕ) (texts : List (List ℕ)) : ℕ → ℕ → Cause → Type 0 where
   faulty : (before after : List (List ℕ)) (text : List ℕ) (fault : Fault) (number : ℕ) → texts ≡ before ++ text ∷ after
-      → list_all (λ t. is_ok (expression_of braid t)) before ≡ true → number ≡ 1 + length before → number ≤ EXPRESSION_LIMIT → expression_of braid text ≡ Err fault
-      → IsFirstFault braid texts number fault.place fault.cause
+      → list_all (λ t. is_ok (expression_of braid list t)) before ≡ true → number ≡ 1 + length before → number ≤ EXPRESSION_LIMIT → expression_of braid list text ≡ Err fault
+      → IsFirstFault braid list texts number fault.place fault.cause
   surplus : (before after : List (List ℕ)) (text : List ℕ) (number : ℕ) → texts ≡ before ++ text ∷ after
-      → list_all (λ t. is_ok (expression_of braid t)) before ≡ true → number ≡ 1 + length before → number ≡ suc EXPRESSION_LIMIT
-      → IsFirstFault braid texts number 1 Surplus
+      → list_all (λ t. is_ok (expression_of braid list t)) before ≡ true → number ≡ 1 + length before → number ≡ suc EXPRESSION_LIMIT
+      → IsFirstFault braid list texts number 1 Surplus
+
+-- the top table of bytes holds this
+abbrev pub HoldsIn : List ℕ → Given → Type 0
+HoldsIn bytes given = (ms : Members) × (table_in bytes ≡ Some ms) × Holds ms given
+
+-- it holds this, with this braid, in the document's own letters
+abbrev pub GivesBraid : List ℕ → Given → BraidValue → Type 0
+GivesBraid bytes given braid = HoldsIn bytes given × (field : FieldValue) × (field_of given.modulus given.extension ≡ Ok field) × (braid_of field given.rows given.scalars ≡ Ok braid)
 
 -- what is due of bytes: the first refusal for which there is a cause, or the document
 pub data IsDue (bytes : List ℕ) : Result DocumentValue Refusal → Type 0 where
@@ -70,18 +81,16 @@ pub data IsDue (bytes : List ℕ) : Result DocumentValue Refusal → Type 0 wher
   missing : (ms : Members) (key : Key) → table_in bytes ≡ Some ms → IsFirst (λ k. is_none (at_key k ms)) needed_keys key → IsDue bytes (Err (missing_key key))
   unknown : (ms : Members) (text : List ℕ) → table_in bytes ≡ Some ms → HasNeededKeys ms → IsLeast (λ t. not (is_known t)) (keys_in ms) text
       → IsDue bytes (Err (unknown_key text))
-  kind : (ms : Members) (key : Key) → table_in bytes ≡ Some ms → HasKeys ms → IsFirst (λ k. has_wrong_kind k (at_key k ms)) known_keys key
+  kind : (ms : Members) (key : Key) → table_in bytes ≡ Some ms → HasKeys ms → IsFirst (λ k. has_wrong_kind (is_extended ms) k (at_key k ms)) known_keys key
       → IsDue bytes (Err (wrong_kind key))
-  outside : (ms : Members) (p : ℤ) (rows : List (List ℤ)) (scalars : GivenScalars) (texts : List (List ℕ)) → table_in bytes ≡ Some ms → Holds ms p rows scalars texts
-      → is_modulus_integer p ≡ false → IsDue bytes (Err (modulus p))
-  no_braid : (ms : Members) (p : ℤ) (rows : List (List ℤ)) (scalars : GivenScalars) (texts : List (List ℕ)) (fault : TableFault) → table_in bytes ≡ Some ms
-      → Holds ms p rows scalars texts → is_modulus_integer p ≡ true → braid_of (prime_field p) rows scalars ≡ Err fault → IsDue bytes (Err (tables fault))
-  no_expression : (ms : Members) (p : ℤ) (rows : List (List ℤ)) (scalars : GivenScalars) (texts : List (List ℕ)) (braid : BraidValue) (number place : ℕ) (cause : Cause)
-      → table_in bytes ≡ Some ms → Holds ms p rows scalars texts → is_modulus_integer p ≡ true → braid_of (prime_field p) rows scalars ≡ Ok braid
-      → IsFirstFault braid texts number place cause → IsDue bytes (Err (expression number place cause))
-  whole : (ms : Members) (p : ℤ) (rows : List (List ℤ)) (scalars : GivenScalars) (texts : List (List ℕ)) (braid : BraidValue) (fs : List Combination)
-      → table_in bytes ≡ Some ms → Holds ms p rows scalars texts → is_modulus_integer p ≡ true → braid_of (prime_field p) rows scalars ≡ Ok braid
-      → HaveValues braid texts fs → IsDue bytes (Ok (record { braid = braid; expressions = fs }))
+  no_field : (given : Given) (fault : FieldFault) → HoldsIn bytes given → field_of given.modulus given.extension ≡ Err fault → IsDue bytes (Err (field_refusal fault))
+  no_braid : (given : Given) (field : FieldValue) (fault : TableFault) → HoldsIn bytes given → field_of given.modulus given.extension ≡ Ok field
+      → braid_of field given.rows given.scalars ≡ Err fault → IsDue bytes (Err (tables fault))
+  no_order : (given : Given) (braid : BraidValue) (place : ℕ) → GivesBraid bytes given braid → order_of braid.letters given.order ≡ Err place → IsDue bytes (Err (order place))
+  no_expression : (given : Given) (braid : BraidValue) (list : List ℕ) (number place : ℕ) (cause : Cause) → GivesBraid bytes given braid → order_of braid.letters given.order ≡ Ok list
+      → IsFirstFault (relabelled list braid) list given.texts number place cause → IsDue bytes (Err (expression number place cause))
+  whole : (given : Given) (braid : BraidValue) (list : List ℕ) (fs : List Combination) → GivesBraid bytes given braid → order_of braid.letters given.order ≡ Ok list
+      → HaveValues (relabelled list braid) list given.texts fs → IsDue bytes (Ok (record { braid = relabelled list braid; order = list; expressions = fs }))
 
 -- a document is read, or refused, exactly where that is due
 abbrev pub DocumentIsDue : Type 0

@@ -4,3 +4,5 @@ pub mod Shapes
 pub mod Refusal
 pub mod Document
 pub mod Laws
+-- what private functions use
+pub mod Tables

@@ -11,8 +11,6 @@ use nichols_braid::BraidFault;
 use nichols_expression::Cause;
 use nichols_field::FieldFault;
 use std::alloc::{AllocError, AllocFailed};
-use std::error::Error;
-use std::fmt;
 
 /// Why a document is refused. The causes are looked for in this order.
 #[derive(Debug, Drop)]
@@ -23,12 +21,14 @@ pub enum InputFault {
     MissingKey(Key),
     /// The least key, in the order of the bytes, that isn't a document's.
     UnknownKey(KeyText),
-    /// The first of `modulus`, `rack`, `cocycle` and `expressions` that is there with a value of a wrong kind.
+    /// The first of `modulus`, `extension`, `rack`, `cocycle`, `order` and `expressions` that is there with a value of a wrong kind.
     WrongKind(Key),
-    /// The modulus is no field's.
+    /// The modulus is no field's, or the extension's polynomial has a root.
     Modulus(FieldFault),
-    /// Rows and scalars aren't a braid. It is never for want of memory.
+    /// Rows and scalars aren't a braid, by the places of the document's own letters. It is never for want of memory.
     Braid(BraidFault),
+    /// The order isn't one of the letters: its least wrong place, from 1.
+    Order(u32),
     /// The first expression that is none: its number, and the place of its first fault, both from 1. Where there
     /// are more than `EXPRESSION_LIMIT`, and the first so many are expressions, it is the one behind them, at place 1.
     Expression(u32, usize, Cause),
@@ -70,22 +70,3 @@ impl From<BraidFault> for InputFault {
         }
     }
 }
-
-impl fmt::Display for InputFault {
-    fn fmt<W: fmt::Write>(&self, f: &mut fmt::Formatter<W>) -> fmt::Result {
-        match self {
-            InputFault::NotToml => write!(f, "the document is no TOML"),
-            InputFault::MissingKey(key) => write!(f, "the key {key} is missing"),
-            InputFault::UnknownKey(text) => write!(f, "the key {} is unknown", text.as_str()),
-            InputFault::WrongKind(key) => write!(f, "the value at {key} is of a wrong kind"),
-            InputFault::Modulus(cause) => write!(f, "{cause}"),
-            InputFault::Braid(cause) => write!(f, "{cause}"),
-            InputFault::Expression(number, place, cause) => {
-                write!(f, "expression {number} at byte {place}: {cause}")
-            }
-            InputFault::Memory => write!(f, "there was no memory for the document"),
-        }
-    }
-}
-
-impl Error for InputFault {}

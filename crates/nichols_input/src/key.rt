@@ -10,10 +10,14 @@ use std::fmt;
 pub enum Key {
     /// `modulus`, an integer.
     Modulus,
+    /// `extension`, an array of exactly two integers, which may be left out.
+    Extension,
     /// `rack`, an array of arrays of integers.
     Rack,
-    /// `cocycle`, an integer or an array of arrays of integers.
+    /// `cocycle`, an entry or an array of arrays of entries: integers, or with an extension also arrays of exactly two integers.
     Cocycle,
+    /// `order`, an array of integers, which may be left out.
+    Order,
     /// `expressions`, an array of strings, which may be left out.
     Expressions,
 }
@@ -25,8 +29,10 @@ impl Key {
     {
         match self {
             Key::Modulus => "modulus",
+            Key::Extension => "extension",
             Key::Rack => "rack",
             Key::Cocycle => "cocycle",
+            Key::Order => "order",
             Key::Expressions => "expressions",
         }
     }

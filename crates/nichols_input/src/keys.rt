@@ -2,10 +2,10 @@
 
 ghost use Rattle.std.specs.Prelude.{◌≡◌, None, Some, IfOk, IfErr, IfSome, MatchResult, map, option_and_then, option_copied, option_map};
 ghost use Rattle.nichols_braid.specs.GivenScalars.{given_scalars};
-ghost use Rattle.nichols_input.specs.Document.{at_key, keys_refusal, missing_in, texts_of, unknown_in};
+ghost use Rattle.nichols_input.specs.Document.{at_key, is_extended, keys_refusal, may_be, missing_in, texts_of, unknown_in};
 ghost use Rattle.nichols_input.specs.Keys.{is_known};
 ghost use Rattle.nichols_input.specs.Refusal.{refusal_of};
-ghost use Rattle.nichols_input.specs.Shapes.{as_rows, as_scalars};
+ghost use Rattle.nichols_input.specs.Shapes.{as_integers, as_pair, as_rows, as_scalars};
 ghost use Rattle.nichols_input.specs.declared.faults.InputFault.TheVariants.{Memory};
 ghost use Rattle.toml.specs.Data.{as_integer};
 ghost use Rattle.toml.specs.View.{table_view, view};
@@ -13,7 +13,7 @@ ghost use Rattle.toml.specs.View.{table_view, view};
 use crate::faults::InputFault;
 use crate::key::Key;
 use crate::key_text::KeyText;
-use crate::shapes::{as_rows, as_scalars, as_texts};
+use crate::shapes::{as_integers, as_pair, as_rows, as_scalars, as_texts};
 use nichols_braid::Scalars;
 use std::alloc::{AllocError, Global};
 use toml::{Table, Value};
@@ -56,7 +56,12 @@ fn missing_key(table: &Table) -> Option<Key>
 fn is_known(key: &str) -> bool
     ensures { result ≡ is_known key.now }
 {
-    key == "modulus" || key == "rack" || key == "cocycle" || key == "expressions"
+    key == "modulus"
+        || key == "extension"
+        || key == "rack"
+        || key == "cocycle"
+        || key == "order"
+        || key == "expressions"
 }
 
 /// The least key that isn't one of a document's.
@@ -103,16 +108,52 @@ pub(crate) fn rows_at(
     }
 }
 
-/// The scalars at a key.
+/// Whether a document has an extension.
+pub(crate) fn is_extended(table: &Table) -> bool
+    ensures { result ≡ is_extended (table_view table.now) }
+{
+    find(table, Key::Extension).is_some()
+}
+
+/// The pair of integers at a key, which may be left out.
+pub(crate) fn pair_at(
+    alloc: Global,
+    table: &Table,
+    key: Key,
+) -> Result<Option<Option<(i64, i64)>>, AllocError>
+    ensures { IfOk result (λ r. r ≡ may_be as_pair (at_key key (table_view table.now))) }
+{
+    match find(table, key) {
+        Some(value) => Ok(as_pair(alloc, value)?.map(Some)),
+        None => Ok(Some(None)),
+    }
+}
+
+/// The integers at a key, which may be left out.
+pub(crate) fn integers_at(
+    alloc: Global,
+    table: &Table,
+    key: Key,
+) -> Result<Option<Option<Vec<i64>>>, AllocError>
+    ensures { IfOk result (λ r. option_map (option_map (λ v. v.items)) r ≡ may_be as_integers (at_key key (table_view table.now))) }
+{
+    match find(table, key) {
+        Some(value) => Ok(as_integers(alloc, value)?.map(Some)),
+        None => Ok(Some(None)),
+    }
+}
+
+/// The scalars at a key, with or without an extension.
 pub(crate) fn scalars_at(
     alloc: Global,
     table: &Table,
     key: Key,
+    extended: bool,
 ) -> Result<Option<Scalars>, AllocError>
-    ensures { IfOk result (λ r. option_map given_scalars r ≡ option_and_then as_scalars (at_key key (table_view table.now))) }
+    ensures { IfOk result (λ r. option_map given_scalars r ≡ option_and_then (as_scalars extended) (at_key key (table_view table.now))) }
 {
     match find(table, key) {
-        Some(value) => as_scalars(alloc, value),
+        Some(value) => as_scalars(alloc, value, extended),
         None => Ok(None),
     }
 }

@@ -1,6 +1,4 @@
 use super::*;
-use nichols_braid::BraidFault;
-use nichols_field::FieldFault;
 use nichols_words::Word;
 use std::test::Fail;
 
@@ -61,49 +59,6 @@ fn documents_that_are_read(rt: HostRuntime) {
     }
 }
 
-/// Causes of a fault of expression 3 at byte 125 as they are shown.
-const CAUSES: [(Cause, &str); 7] = [
-    (Cause::Early, "text ends too early"),
-    (Cause::Byte, "unexpected byte"),
-    (Cause::Letter, "letter outside the rack"),
-    (Cause::LongNumber, "number longer than 9 digits"),
-    (Cause::LongWord, "word longer than 60 letters"),
-    (Cause::Terms, "more than 1000 terms"),
-    (Cause::Surplus, "more than 1000 expressions"),
-];
-
-#[test]
-fn faults_as_they_are_shown(rt: HostRuntime) -> Result<(), Fail> {
-    let alloc = rt.alloc();
-    let colour = KeyText::new(alloc, "colour")?;
-    for (fault, want) in [
-        (InputFault::NotToml, "the document is no TOML"),
-        (InputFault::MissingKey(Key::Rack), "the key rack is missing"),
-        (InputFault::UnknownKey(colour), "the key colour is unknown"),
-        (
-            InputFault::WrongKind(Key::Cocycle),
-            "the value at cocycle is of a wrong kind",
-        ),
-        (
-            InputFault::Modulus(FieldFault::OutsideList(-7)),
-            "-7 is none of 2, 3, 5, 7, 101 and 65521",
-        ),
-        (
-            InputFault::Braid(BraidFault::CocycleZero(2, 1)),
-            "q(2, 1) is 0",
-        ),
-    ] {
-        let shown = format!(in alloc; "{fault}")?;
-        assert_eq!(rt; shown.as_str(), want);
-    }
-    for (cause, words) in CAUSES {
-        let shown = format!(in alloc; "{}", InputFault::Expression(3, 125, cause))?;
-        let want = format!(in alloc; "expression 3 at byte 125: {words}")?;
-        assert_eq!(rt; shown.as_str(), want.as_str());
-    }
-    Ok(())
-}
-
 #[test]
 fn as_many_expressions_as_there_may_be(rt: HostRuntime) -> Result<(), Fail> {
     let alloc = rt.alloc();
@@ -123,7 +78,14 @@ fn as_many_expressions_as_there_may_be(rt: HostRuntime) -> Result<(), Fail> {
 #[test]
 fn keys(rt: HostRuntime) -> Result<(), Fail> {
     let alloc = rt.alloc();
-    for key in [Key::Modulus, Key::Rack, Key::Cocycle, Key::Expressions] {
+    for key in [
+        Key::Modulus,
+        Key::Extension,
+        Key::Rack,
+        Key::Cocycle,
+        Key::Order,
+        Key::Expressions,
+    ] {
         let shown = format!(in alloc; "{key}")?;
         assert_eq!(rt; shown.as_str(), key.name());
     }

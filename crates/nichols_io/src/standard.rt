@@ -14,7 +14,7 @@ use std::io::{Read, Write};
 #[derive(Drop)]
 pub struct StdSource<R: Read> {
     /// The reader underneath.
-    pub inner: R,
+    inner: R,
     faults: u64,
 }
 
@@ -57,7 +57,7 @@ impl<R: Read> Source for StdSource<R> {
 #[derive(Drop)]
 pub struct StdSink<W: Write> {
     /// The writer underneath.
-    pub inner: W,
+    inner: W,
     faults: u64,
 }
 

@@ -7,8 +7,6 @@ ghost use Rattle.nichols_io.specs.Bytes.{TellsAlike, ConsumesExactly, ConsumesAt
 
 use crate::sources::{Got, Source};
 use std::alloc::Global;
-use std::error::Error;
-use std::fmt;
 
 /// Why a source wasn't read to its end.
 #[derive(Clone, Copy, PartialEq, Eq, Debug)]
@@ -20,18 +18,6 @@ pub enum ReadFault {
     /// There was no memory for the bytes that came.
     Memory,
 }
-
-impl fmt::Display for ReadFault {
-    fn fmt<W: fmt::Write>(&self, f: &mut fmt::Formatter<W>) -> fmt::Result {
-        match self {
-            ReadFault::Failed => write!(f, "the source failed"),
-            ReadFault::TooLong => write!(f, "more bytes came than the limit"),
-            ReadFault::Memory => write!(f, "there was no memory for the bytes that came"),
-        }
-    }
-}
-
-impl Error for ReadFault {}
 
 /// Reads a source to its end, which has to come within `limit` bytes.
 ///

@@ -12,6 +12,7 @@ pub mod Factorisation
 pub mod Kernel
 pub mod Readings
 pub mod LeftReadings
+pub mod TwoSided
 pub mod Parts
 pub mod Recursion
 pub mod Leading

@@ -2,6 +2,7 @@
 use Rattle.std.specs.Prelude.{◌≡◌, ℕ, suc, ◌≤◌, true, List, [], ◌++◌, length}
 use Rattle.std.specs.List.{flat_map, Contains}
 use Rattle.nichols_tensor.specs.Combination.{Combination, HasSameValues}
+use Rattle.nichols_tensor.specs.Product.{product}
 use Rattle.nichols_tensor.specs.Words.{up_to, IsWordOver, IsOver, HasDegree}
 use Rattle.nichols_braid.specs.Braid.{BraidValue, IsBraid, IsLetter}
 use Rattle.nichols_braid.specs.Crossing.{crossed_term}
@@ -49,6 +50,15 @@ KernelIsRightIdeal =
 abbrev pub KernelIsLeftIdeal : Type 0
 KernelIsLeftIdeal =
     (braid : BraidValue) → IsBraid braid → (m : ℕ) (f : Combination) (b : ℕ) → HasDegree m f → IsOver braid.letters f → IsLetter braid b → IsInKernel braid f → IsInKernel braid (letter_times b f)
+
+-- both products of f and g are in the kernel
+pub record IsInKernelOnBothSides (braid : BraidValue) (f g : Combination) : Type 0 where
+  pub first : IsInKernel braid (product braid.field f g)
+  pub second : IsInKernel braid (product braid.field g f)
+
+-- with f in the kernel, so is each product with f as a factor, for words of any lengths
+abbrev pub KernelIsTwoSided : Type 0
+KernelIsTwoSided = (braid : BraidValue) → IsBraid braid → (f g : Combination) → IsOver braid.letters f → IsOver braid.letters g → IsInKernel braid f → IsInKernelOnBothSides braid f g
 
 -- the symmetrizer and the skew derivations give the same least words, bases, normal forms, candidates and relations
 abbrev pub ReadingsAgree : Type 0

@@ -2,7 +2,7 @@
 //!
 //! They hold for every braid and every length (Heckenberger and Schneider, "Hopf Algebras and Root Systems").
 
-ghost use Rattle.nichols_lift.specs.Laws.{LeastPlacesDescend, ReducedListsAgree, SymmetrizerFactors, KernelByDerivations, KernelIsRightIdeal, KernelIsLeftIdeal, ReadingsAgree, ReadingsAreIdeals, EmptyWordIsLeast, PrefixesAreLeast, SuffixesAreLeast, LeastWordsAreCandidates, EmptyDegreesStayEmpty};
+ghost use Rattle.nichols_lift.specs.Laws.{LeastPlacesDescend, ReducedListsAgree, SymmetrizerFactors, KernelByDerivations, KernelIsRightIdeal, KernelIsLeftIdeal, KernelIsTwoSided, ReadingsAgree, ReadingsAreIdeals, EmptyWordIsLeast, PrefixesAreLeast, SuffixesAreLeast, LeastWordsAreCandidates, EmptyDegreesStayEmpty};
 
 /// The list of the lift is descending: exchanging the end places at the least place whose entry is greater than the next one,
 /// again and again, sorts them.
@@ -41,6 +41,13 @@ pub fn kernel_is_right_ideal()
 #[tactic(auto, using(crate::proofs::LiftLaws::kernel_is_left_ideal))]
 pub fn kernel_is_left_ideal()
     ensures { KernelIsLeftIdeal }
+{}
+
+/// Two-sided ideal: where f is in the kernel, so are `f g` and `g f`, for all combinations f and g over the letters, whatever the
+/// lengths of their words.
+#[tactic(auto, using(crate::proofs::TwoSided::kernel_is_two_sided))]
+pub fn kernel_is_two_sided()
+    ensures { KernelIsTwoSided }
 {}
 
 /// The symmetrizer and the skew derivations give the same least words, bases, normal forms, candidates and relations.

@@ -1,6 +1,7 @@
 //! The program: a document on standard input, its report on standard output, and the status as exit status.
 #![tactic(auto)]
 
+use nichols_crew::OpenGate;
 use nichols_io::{StdSink, StdSource};
 use nichols_top::{Status, run};
 use std::io;
@@ -18,6 +19,14 @@ fn main(rt: HostRuntime) -> ExitCode {
     };
     let mut source = StdSource::new(rt.reader());
     let mut sink = StdSink::new(io::writer(&rt));
-    let status = run(&rt, alloc, words.as_slice(), &mut source, &mut sink);
+    let mut gate = OpenGate::new();
+    let status = run(
+        &rt,
+        alloc,
+        words.as_slice(),
+        &mut source,
+        &mut sink,
+        &mut gate,
+    );
     ExitCode::from(status)
 }

@@ -1,17 +1,17 @@
 -- What the loops over words, rows and candidates come to.
-use Rattle.std.proofs.Common.{◌≡◌, ℕ, zero, suc, ◌+◌, ◌*◌, ◌^◌, ◌<◌, ◌≤◌, List, [], ◌∷◌, length, map, take, refl, sym, ◌∙◌, ap, ap₂, subst, arith, add-one}
+use Rattle.std.proofs.Common.{◌≡◌, ℕ, zero, suc, ◌+◌, ◌*◌, ◌^◌, ◌<◌, ◌≤◌, List, [], ◌∷◌, length, take, sym, ◌∙◌, ap, ap₂, subst, arith, add-one}
 use Rattle.std.proofs.lemmas.List.Sums.{length-filter, count_by-le-length}
-use Rattle.std.specs.List.{AllByRecursion, flat_map}
-use Rattle.std.proofs.lemmas.List.{take_all, length-append}
+use Rattle.std.specs.List.{AllByRecursion}
+use Rattle.std.proofs.lemmas.List.{take_all}
 use Rattle.std.proofs.Math.Nat.{pow-zero, pow-suc, pow-le-pow_right}
 use Rattle.nichols_tensor.specs.declared.TheConstants.{WORD_LIMIT}
 use Rattle.nichols_field.specs.Field.{FieldValue}
 use Rattle.std.proofs.Math.Nat.{mul-le-mul}
 use Rattle.nichols_tensor.specs.Combination.{Combination, HasSameValues, AllElements, single}
 use Rattle.nichols_tensor.specs.WordOrder.{IsRising}
-use Rattle.nichols_tensor.specs.Words.{up_to, words, IsWordOver, with_letters}
+use Rattle.nichols_tensor.specs.Words.{words, IsWordOver, with_letters}
+use Rattle.nichols_tensor.proofs.AllWords.{words_length}
 use Rattle.nichols_tensor.proofs.Tests.{all_of_entries}
-use Rattle.nichols_tensor.proofs.Letters.{up_to_length}
 use Rattle.nichols_tensor.proofs.Pushed.{with_letters_length}
 use Rattle.nichols_braid.specs.Braid.{BraidValue, IsBraid}
 use Rattle.nichols_braid.specs.Kernel.{is_in_kernel}
@@ -53,23 +53,6 @@ candidates_have_columns braid m ws is short few =
     (λ w i.
     let from : (length w ≡ m) × IsWordOver braid.letters w = from_candidates is_in_kernel braid m w i in
     record { short = subst (λ l. l ≤ PLACE_LIMIT) (sym from.0) short; letters = from.1; columns = subst (λ l. braid.letters ^ l < 2 ^ 32) (sym from.0) few }))
-
-prefixed_length : (ws : List (List ℕ)) (letters : List ℕ) → length (flat_map (λ a. map (λ w. a ∷ w) ws) letters) ≡ length letters * length ws
-prefixed_length ws [] = let e : ◌≡◌ {A = ℕ} 0 (0 * length ws) = omega arith in e
-prefixed_length ws (a ∷ letters) =
-    length-append (map (λ w. a ∷ w) ws) (flat_map (λ b. map (λ w. b ∷ w) ws) letters) ∙ ap₂ (λ x y. x + y) (mapped ws) (prefixed_length ws letters) ∙ one (length letters) (length ws)
-  where
-    mapped : (vs : List (List ℕ)) → length (map (λ w. a ∷ w) vs) ≡ length vs
-    mapped [] = refl
-    mapped (v ∷ vs) = ap suc (mapped vs)
-
-    one : (l m : ℕ) → m + l * m ≡ suc l * m
-    one l m = omega arith
-
-words_length : (n m : ℕ) → length (words n m) ≡ n ^ m
-unfolding words
-words_length n zero = sym (pow-zero n)
-words_length n (suc m) = prefixed_length (words n m) (up_to n) ∙ ap₂ (λ a b. a * b) (up_to_length n) (words_length n m) ∙ (let c : n * n ^ m ≡ n ^ m * n = omega arith in c) ∙ sym (pow-suc n m)
 
 basis_few : (braid : BraidValue) (m : ℕ) → length (basis is_in_kernel braid m) ≤ braid.letters ^ m
 unfolding basis

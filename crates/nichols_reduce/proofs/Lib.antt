@@ -1,8 +1,11 @@
-mod GrowingSums
-mod Longest
+pub mod GrowingSums
+mod LongestWords
 mod RowForms
-mod WordForms
-mod PartForms
-mod LastDegree
+pub mod WordForms
+pub mod PartForms
+pub mod ElementForms
+pub mod KeptForms
+mod ManyForms
+pub mod LastDegree
 pub mod ReduceLaws
 mod WholeLevels

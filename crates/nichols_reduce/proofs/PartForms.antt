@@ -13,9 +13,8 @@ use Rattle.nichols_tensor.proofs.Linear.{linear_map-append, same_append, same_sc
 use Rattle.nichols_tensor.proofs.Ordered.{ordered_unique}
 use Rattle.nichols_braid.specs.Braid.{BraidValue, IsBraid}
 use Rattle.nichols_braid.specs.Kernel.{is_killed}
-use Rattle.nichols_braid.specs.Least.{basis}
+use Rattle.nichols_braid.specs.Least.{basis, normal_form}
 use Rattle.nichols_braid.specs.LeastLaws.{IsNormalForm}
-use Rattle.nichols_braid.specs.Product.{product_of}
 use Rattle.nichols_braid.specs.WholeForm.{normal_form_by_parts}
 use Rattle.nichols_braid.specs.WholeLaws.{HasFormByParts}
 use Rattle.nichols_braid.proofs.BraidLaws.{killed_is_linear, killed_is_ideal_from_right}
@@ -23,7 +22,8 @@ use Rattle.nichols_braid.proofs.NormalForms.{form_is_normal, form_of_zero}
 use Rattle.nichols_braid.proofs.Prefixes.{stays_empty}
 use Rattle.nichols_braid.proofs.WholeForms.{normal_forms_by_parts}
 use Rattle.nichols_value.specs.Block.{block_basis}
-use Rattle.nichols_reduce.specs.Forms.{IsFormOf, form_of}
+use Rattle.nichols_memo.specs.Forms.{form_of}
+use Rattle.nichols_reduce.specs.Forms.{AreSumsOf}
 use Rattle.nichols_reduce.specs.Laws.{IsLinearForm}
 use Rattle.nichols_reduce.specs.Normal.{is_beyond}
 use Rattle.nichols_reduce.specs.Sums.{combination_of}
@@ -34,7 +34,7 @@ use Rattle.std.proofs.lemmas.List.Elements.{All-from_recursion}
 
 -- ---- the form of a whole is the sum of those of its words
 
-whole_of : (braid : BraidValue) → IsBraid braid → (f : Combination) → IsOver braid.letters f → HasFormByParts is_killed braid f
+pub whole_of : (braid : BraidValue) → IsBraid braid → (f : Combination) → IsOver braid.letters f → HasFormByParts is_killed braid f
 whole_of braid is f over = normal_forms_by_parts is_killed braid is.field (killed_is_linear braid is) f over
 
 -- a term
@@ -46,7 +46,7 @@ whole_of_term braid is t over element v =
     ∙ linear.multiples t.coefficient (single t.word) (over, tt) v
     ∙ ap (λ f. value_at k (scalar_multiple k t.coefficient f) v) ((whole_of braid is (single t.word) (over, tt)).degree (length t.word) (refl, tt))
 
-whole_by_words : (braid : BraidValue) → IsBraid braid → (f : Combination) → IsOver braid.letters f → AllElements braid.field f → HasSameValues braid.field (normal_form_by_parts is_killed braid f) (linear_map braid.field (form_of braid) f)
+pub whole_by_words : (braid : BraidValue) → IsBraid braid → (f : Combination) → IsOver braid.letters f → AllElements braid.field f → HasSameValues braid.field (normal_form_by_parts is_killed braid f) (linear_map braid.field (form_of braid) f)
 whole_by_words braid is [] over elements v =
     ap (λ f. value_at braid.field f v) ((whole_of braid is [] tt).degree 0 tt ∙ form_of_zero is_killed braid is.field 0 (killed_is_linear braid is 0) [] (killed_is_linear braid is 0).holds_of_zero)
 whole_by_words braid is (t ∷ f) over elements v =
@@ -64,11 +64,11 @@ whole_is braid is f g h over elements same own ordered h_elements =
 -- ---- one term more
 
 -- what holds of each entry holds of that at a place
-entry_at : (P : Term → Type 0) (f : Combination) (i : ℕ) (t : Term) → AllByRecursion P f → i < length f → t ≡ get_or f i t → P t
+pub entry_at : (P : Term → Type 0) (f : Combination) (i : ℕ) (t : Term) → AllByRecursion P f → i < length f → t ≡ get_or f i t → P t
 entry_at P f i t h less at = subst P (sym at) (All-from_recursion P f h i t less)
 
 -- the images of one term more
-words_more : (k : FieldValue) (image : List ℕ → Combination) (f : Combination) (i : ℕ) (t : Term) → i < length f → t ≡ get_or f i t → linear_map k image (take (i + 1) f) ≡ linear_map k image (take i f) ++ scalar_multiple k t.coefficient (image t.word)
+pub words_more : (k : FieldValue) (image : List ℕ → Combination) (f : Combination) (i : ℕ) (t : Term) → i < length f → t ≡ get_or f i t → linear_map k image (take (i + 1) f) ≡ linear_map k image (take i f) ++ scalar_multiple k t.coefficient (image t.word)
 words_more k image f i t less at =
     ap (linear_map k image) (take_more f i t less ∙ ap (λ u. take i f ++ u ∷ []) (sym at))
     ∙ linear_map-append k image (take i f) (t ∷ []) ∙ ap (λ g. linear_map k image (take i f) ++ g) (append-nil (scalar_multiple k t.coefficient (image t.word)))
@@ -82,7 +82,7 @@ sum_with k is image f i t sum more new less at h grown gathered v =
 
 -- ---- words that are too long
 
-longest_at : (f : Combination) (i : ℕ) (d : Term) → i < length f → length (get_or f i d).word ≤ longest f
+pub longest_at : (f : Combination) (i : ℕ) (d : Term) → i < length f → length (get_or f i d).word ≤ longest f
 unfolding longest
 longest_at [] i d less = absurd (omega arith)
 longest_at (u ∷ f) zero d less = omega arith
@@ -110,15 +110,16 @@ pub same_terms : (k l : FieldValue) → l ≡ k → (ws us : List (List ℕ)) �
 same_terms k l field ws us words ms ns sums by old new e =
     e ∙ ap (λ h. old ++ without_zeros (scalar_multiple h by (combination_of h us ms))) field ∙ ap₂ (λ vs xs. old ++ without_zeros (scalar_multiple k by (combination_of k vs xs))) words sums
 
--- the sums of a word's form, as terms, are a multiple of the form
-pub values_of_form : (braid : BraidValue) → IsBraid braid → (w : List ℕ) (by : ℕ) (sums : List ℕ) (old new : Combination) → IsFormOf braid w sums →
-    new ≡ old ++ without_zeros (scalar_multiple braid.field by (combination_of braid.field (block_basis braid (length w) (product_of braid w)) sums)) → HasSameValues braid.field new (old ++ scalar_multiple braid.field by (form_of braid w))
-values_of_form braid is w by sums old new formed e v =
+-- the sums of a normal form, as terms, are a multiple of the form
+pub values_of_sums : (braid : BraidValue) → IsBraid braid → (m : ℕ) (g : List ℕ) (f : Combination) (by : ℕ) (sums : List ℕ) (old new : Combination) → AreSumsOf braid m g f sums →
+    new ≡ old ++ without_zeros (scalar_multiple braid.field by (combination_of braid.field (block_basis braid m g) sums)) → HasSameValues braid.field new (old ++ scalar_multiple braid.field by (normal_form is_killed braid m f))
+values_of_sums braid is m g f by sums old new formed e v =
     let k : FieldValue = braid.field in
-    let f : Combination = combination_of k (block_basis braid (length w) (product_of braid w)) sums in
-    ap (λ g. value_at k g v) e
-    ∙ same_append k is.field old (without_zeros (scalar_multiple k by f)) old (scalar_multiple k by (form_of braid w)) (λ u. refl)
-    (λ u. value_at-without_zeros k is.field (scalar_multiple k by f) u ∙ same_scaled k is.field by f (form_of braid w) formed.values u) v
+    let own : Combination = combination_of k (block_basis braid m g) sums in
+    let form : Combination = normal_form is_killed braid m f in
+    ap (λ h. value_at k h v) e
+    ∙ same_append k is.field old (without_zeros (scalar_multiple k by own)) old (scalar_multiple k by form) (λ u. refl)
+    (λ u. value_at-without_zeros k is.field (scalar_multiple k by own) u ∙ same_scaled k is.field by own form formed.values u) v
 
 pub elements_with : (k : FieldValue) → IsField k → (by : ℕ) (f old new : Combination) → AllElements k old → new ≡ old ++ without_zeros (scalar_multiple k by f) → AllElements k new
 elements_with k is by f old new h e = subst (AllElements k) (sym e) (elements-append k old (without_zeros (scalar_multiple k by f)) h (elements-multiple k is by f))

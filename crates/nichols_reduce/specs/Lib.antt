@@ -5,5 +5,6 @@ pub mod Laws
 -- what the crate's own functions cite
 pub mod Sums
 pub mod Forms
+pub mod Shares
 -- what the tests cite
 pub mod Whole

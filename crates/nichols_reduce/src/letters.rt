@@ -1,26 +1,26 @@
-//! Words reduced from the left, a letter at a time.
+//! Elements of one block followed by letters, a letter at a time.
 
-ghost use Rattle.std.specs.Prelude.{◌≡◌, ◌≤◌, ◌<◌, ◌+◌, [], IfOk, OnOk, length, replicate, slice_index_or, take};
+ghost use Rattle.std.specs.Prelude.{◌≡◌, ◌≤◌, ◌<◌, ◌+◌, ◌++◌, ℕ, suc, List, [], ◌∷◌, IfOk, OnOk, length, replicate, slice_index_or};
 ghost use Rattle.std.specs.List.{Contains};
 ghost use Rattle.nichols_field.specs.Field.{IsElement};
 ghost use Rattle.nichols_tensor.specs.Combination.{AllElements, scalar_multiple};
 ghost use Rattle.nichols_tensor.specs.Words.{IsWordOver};
 ghost use Rattle.nichols_braid.specs.Braid.{IsLetter};
-ghost use Rattle.nichols_braid.specs.Product.{product_of};
+ghost use Rattle.nichols_braid.specs.Product.{product_before, product_of};
 ghost use Rattle.nichols_braid.specs.Products.{products};
+ghost use Rattle.nichols_value.specs.Block.{block_basis};
 ghost use Rattle.nichols_value.specs.Rule.{IsRuleOf, below_in, right_in};
 ghost use Rattle.nichols_reduce.specs.Sums.{HasGrownBy, combination_of};
-ghost use Rattle.nichols_reduce.specs.Forms.{IsFormOf, followed_by_letter};
+ghost use Rattle.nichols_reduce.specs.Forms.{AreFollowed, followed_by_letter};
 
 use nichols_block::Levels;
 use nichols_braid::{Braid, Product};
 use nichols_field::Field;
 use nichols_value::BlockRule;
-use nichols_words::Word;
 use std::alloc::AllocError;
 
 /// The rule of a block of a degree that is made.
-pub(crate) fn block_rule<'levels>(
+pub fn block_rule<'levels>(
     levels: &'levels Levels,
     degree: u32,
     product: &Product,
@@ -80,56 +80,65 @@ fn zero_sums(sums: &mut Vec<u64>, places: usize) -> Result<(), AllocError>
     Ok(())
 }
 
-/// Puts the normal form of the first k + 1 letters of a word, whose product this is, into the sums, from that of the first k
-/// letters: their block is the lower block by the letter.
+/// Puts the normal form of `f x_b`, whose block has this product, into the sums, from that of f, an element of degree m: its block is
+/// the lower block by b.
 fn put_longer(
     levels: &Levels,
-    word: &Word,
-    k: usize,
+    m: u32,
     product: &Product,
+    b: u8,
     form: &[u64],
     sums: &mut Vec<u64>,
 ) -> Result<(), AllocError>
-    requires letters { IsWordOver levels.now.braid.letters word.now }
-    requires made { length word.now ≤ levels.now.last }
-    requires inside { k < length word.now }
-    requires product { product.now ≡ product_of levels.now.braid (take (k + 1) word.now) }
-    requires form { IsFormOf levels.now.braid (take k word.now) form.now }
-    ensures { OnOk result (IsFormOf levels.now.braid (take (k + 1) word.now) sums.new.items) }
+    requires made { m < levels.now.last }
+    requires letter { IsLetter levels.now.braid b }
+    requires there { Contains (products levels.now.braid (suc m)) product.now }
+    requires form { length form.now ≡ length (block_basis levels.now.braid m (product_before levels.now.braid b product.now)) }
+    ensures { OnOk result (AreFollowed levels.now.braid m (product_before levels.now.braid b product.now) form.now (b ∷ []) (suc m) product.now sums.new.items) }
 {
     let braid = levels.braid();
     let _field = braid.field();
     let _last = levels.last();
-    let rule = block_rule(levels, k as u32 + 1, product);
+    let rule = block_rule(levels, m + 1, product);
     zero_sums(sums, rule.basis().len())?;
-    add_followed(braid, rule, form, word.letter(k), sums.as_mut_slice());
+    add_followed(braid, rule, form, b, sums.as_mut_slice());
     Ok(())
 }
 
-/// Puts the normal form of a word of a degree that is made into `form`: a coefficient for each least word of its block, which has
-/// the product that is answered.
+/// Puts the normal form of `f w` into `form`, in place of that of f: a coefficient for each least word of its block. f is an element of
+/// the block of degree m and this product; the product of the block of `f w` is answered.
 ///
-/// What `form` and `spare` had is dropped; their memory is used again.
-pub(crate) fn put_form(
+/// What `spare` had is dropped; its memory is used again.
+pub fn follow(
     levels: &Levels,
-    word: &Word,
+    m: u32,
+    product: &Product,
+    letters: &[u8],
     form: &mut Vec<u64>,
     spare: &mut Vec<u64>,
 ) -> Result<Product, AllocError>
-    requires letters { IsWordOver levels.now.braid.letters word.now }
-    requires made { length word.now ≤ levels.now.last }
-    ensures product { IfOk result (λ g. g ≡ product_of levels.now.braid word.now) }
-    ensures form { OnOk result (IsFormOf levels.now.braid word.now form.new.items) }
+    requires made { m + length letters.now ≤ levels.now.last }
+    requires letters { IsWordOver levels.now.braid.letters letters.now }
+    requires there { Contains (products levels.now.braid m) product.now }
+    requires form { length form.old.items ≡ length (block_basis levels.now.braid m product.now) }
+    ensures product { IfOk result (λ h. (u : List ℕ) → product.now ≡ product_of levels.now.braid u → h ≡ product_of levels.now.braid (u ++ letters.now)) }
+    ensures form { IfOk result (λ h. AreFollowed levels.now.braid m product.now form.old.items letters.now (m + length letters.now) h form.new.items) }
 {
     let braid = levels.braid();
     let _field = braid.field();
-    form.clear();
-    form.push(1)?;
-    let mut product = Product::identity(braid.letters());
-    for k in 0..word.len() {
-        product = product.times(braid, word.letter(k));
-        put_longer(levels, word, k, &product, form.as_slice(), spare)?;
+    let _last = levels.last();
+    let mut longer = *product;
+    for (k, letter) in letters.iter().enumerate() {
+        longer = longer.times(braid, *letter);
+        put_longer(
+            levels,
+            m + k as u32,
+            &longer,
+            *letter,
+            form.as_slice(),
+            spare,
+        )?;
         std::mem::swap(form, spare);
     }
-    Ok(product)
+    Ok(longer)
 }

@@ -7,21 +7,25 @@ ghost use Rattle.nichols_tensor.specs.Parts.{longest};
 ghost use Rattle.nichols_tensor.specs.Words.{IsOver, IsWordOver};
 ghost use Rattle.nichols_braid.specs.Kernel.{is_killed};
 ghost use Rattle.nichols_braid.specs.WholeForm.{normal_form_by_parts};
-ghost use Rattle.nichols_reduce.specs.Forms.{form_of};
+ghost use Rattle.nichols_memo.specs.Forms.{form_of};
+ghost use Rattle.nichols_memo.specs.Seats.{IsOf, braid_of};
 ghost use Rattle.nichols_reduce.specs.Normal.{is_beyond};
 
-use crate::letters::{block_rule, put_form};
+use crate::letters::block_rule;
+use crate::pace::Pace;
 use crate::sums::put_terms;
+use crate::words::put_form;
 use nichols_block::Levels;
 use nichols_field::Field;
+use nichols_memo::{Memo, MemoSeat};
 use nichols_words::{Comb, Term};
 use std::alloc::{AllocError, Global};
 
 /// So many terms are kept before those of one word are added up.
 const MANY_TERMS: usize = 1_000_000;
 
-/// The most letters of a word, or 0.
-fn longest(terms: &[Term]) -> usize
+/// The most letters of a word, or 0 where there is none.
+pub fn longest(terms: &[Term]) -> usize
     ensures { result ≡ longest terms.now }
 {
     let mut most = 0;
@@ -40,22 +44,29 @@ pub(crate) fn is_beyond(levels: &Levels, terms: &[Term]) -> bool
 
 /// Puts the normal form of a term, whose word has a degree that is made, behind other terms.
 fn put_term(
+    alloc: Global,
     levels: &Levels,
+    memo: &Memo,
+    seat: &mut MemoSeat,
+    pace: &mut Pace,
     term: &Term,
     sum: &mut Vec<Term>,
     form: &mut Vec<u64>,
     spare: &mut Vec<u64>,
 ) -> Result<(), AllocError>
+    requires memo { braid_of memo.now ≡ levels.now.braid }
+    requires seat { IsOf memo.now seat.old }
     requires made { length term.now.word ≤ levels.now.last }
     requires letters { IsWordOver levels.now.braid.letters term.now.word }
     requires element { IsElement levels.now.braid.field term.now.coefficient }
     requires elements { AllElements levels.now.braid.field sum.old.items }
+    ensures seat { IsOf memo.now seat.new }
     ensures values { OnOk result (HasSameValues levels.now.braid.field sum.new.items (sum.old.items ++ scalar_multiple levels.now.braid.field term.now.coefficient (form_of levels.now.braid term.now.word))) }
     ensures elements { OnOk result (AllElements levels.now.braid.field sum.new.items) }
 {
     let field = levels.braid().field();
     let _last = levels.last();
-    let product = put_form(levels, &term.word, form, spare)?;
+    let product = put_form(alloc, levels, memo, seat, pace, &term.word, form, spare)?;
     let rule = block_rule(levels, term.word.len() as u32, &product);
     put_terms(field, term.coefficient, rule.basis(), form.as_slice(), sum)?;
     Ok(())
@@ -87,12 +98,18 @@ fn gathered(
 pub(crate) fn sum_of_forms(
     alloc: Global,
     levels: &Levels,
+    memo: &Memo,
+    seat: &mut MemoSeat,
+    pace: &mut Pace,
     terms: &[Term],
 ) -> Result<Comb, AllocError>
+    requires memo { braid_of memo.now ≡ levels.now.braid }
+    requires seat { IsOf memo.now seat.old }
     requires letters { IsOver levels.now.braid.letters terms.now }
     requires elements { AllElements levels.now.braid.field terms.now }
     requires within { is_beyond levels.now.braid levels.now.last terms.now ≡ false }
-    ensures { IfOk result (λ r. r ≡ normal_form_by_parts is_killed levels.now.braid terms.now) }
+    ensures seat { IsOf memo.now seat.new }
+    ensures form { IfOk result (λ r. r ≡ normal_form_by_parts is_killed levels.now.braid terms.now) }
 {
     let field = levels.braid().field();
     let last = levels.last() as usize;
@@ -102,7 +119,9 @@ pub(crate) fn sum_of_forms(
     let mut most = MANY_TERMS;
     for term in terms {
         if term.word.len() <= last {
-            put_term(levels, term, &mut sum, &mut form, &mut spare)?;
+            put_term(
+                alloc, levels, memo, seat, pace, term, &mut sum, &mut form, &mut spare,
+            )?;
         }
         sum = gathered(alloc, field, sum, &mut most)?;
     }

@@ -10,7 +10,7 @@ use nichols_words::{Term, Word};
 use std::alloc::AllocError;
 
 /// Puts the terms of a multiple of the sums that aren't 0 behind other terms.
-pub(crate) fn put_terms(
+pub fn put_terms(
     field: Field,
     by: u32,
     basis: &[Word],

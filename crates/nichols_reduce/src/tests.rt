@@ -1,5 +1,5 @@
-ghost use Rattle.std.specs.Prelude.{◌≡◌, ◌<◌, IfOk, MatchOption, map, suc, ⊤};
-ghost use Rattle.std.specs.List.{Contains};
+ghost use Rattle.std.specs.Prelude.{◌≡◌, ◌<◌, ◌≤◌, IfOk, MatchOption, map, suc, ⊤};
+ghost use Rattle.std.specs.List.{AllByRecursion, Contains};
 ghost use Rattle.nichols_tensor.specs.Combination.{AllElements};
 ghost use Rattle.nichols_tensor.specs.Words.{IsOver};
 ghost use Rattle.nichols_braid.specs.declared.TheConstants.{MOST_DEGREES};
@@ -12,11 +12,13 @@ ghost use Rattle.nichols_reduce.specs.Whole.{AreWhole, IsWholeRule};
 use super::*;
 use nichols_block::{BlockKey, BlockValue, Levels, Shared, lower_values, make};
 use nichols_braid::{Braid, MOST_DEGREES, MOST_ROWS, Product, Products};
+use nichols_memo::Memo;
 use nichols_tensor::WORD_LIMIT;
 use nichols_testing::{has_terms, tetrahedron, three_transpositions, word, word_over};
 use nichols_words::Comb;
 use std::alloc::{AllocError, Global};
 use std::test::Fail;
+use std::thread::Threads;
 
 /// The rule of the block of the next degree and a product, or `None` where there was none.
 fn next_value(
@@ -137,9 +139,10 @@ fn is_wanted(found: &Normal, want: Want) -> bool {
 
 /// Whether each combination has the answer that stands beside it.
 fn has_answers(alloc: Global, levels: &Levels, rows: &[(Listed, Want)]) -> Result<bool, Fail> {
+    let (memo, mut seat) = Memo::start(alloc, levels.braid(), 16)?;
     for (listed, want) in rows {
         let comb = comb_over(alloc, levels.braid(), listed)?;
-        if !is_wanted(&normal(alloc, levels, &comb)?, *want) {
+        if !is_wanted(&normal(alloc, levels, &memo, &mut seat, &comb)?, *want) {
             return Ok(false);
         }
     }
@@ -251,5 +254,91 @@ fn tetrahedron_up_to_degree_5(rt: HostRuntime) -> Result<(), Fail> {
         ),
     ];
     assert!(rt; has_answers(alloc, &levels, &rows)?);
+    Ok(())
+}
+
+/// A word of three letters is kept whole.
+#[test]
+fn the_form_of_a_word_is_found_again(rt: HostRuntime) -> Result<(), Fail> {
+    let alloc = rt.alloc();
+    let levels = levels_up_to(alloc, three_transpositions(alloc)?, 12)?;
+    let (memo, mut seat) = Memo::start(alloc, levels.braid(), 16)?;
+    let comb = comb_over(alloc, levels.braid(), &[("3.1.2", 1)])?;
+    let want = Want::Terms(&[("2.1.3", 1)]);
+    let first = normal(alloc, &levels, &memo, &mut seat, &comb)?;
+    assert!(rt; is_wanted(&first, want));
+    assert_eq!(rt; memo.hits(&seat), 0);
+    let second = normal(alloc, &levels, &memo, &mut seat, &comb)?;
+    assert!(rt; is_wanted(&second, want));
+    assert_eq!(rt; memo.hits(&seat), 1);
+    Ok(())
+}
+
+/// Two words of seven letters that share the first five: the second begins from the form of these.
+#[test]
+fn words_share_a_prefix(rt: HostRuntime) -> Result<(), Fail> {
+    let alloc = rt.alloc();
+    let levels = levels_up_to(alloc, tetrahedron(alloc)?, 7)?;
+    let (memo, mut seat) = Memo::start(alloc, levels.braid(), 256)?;
+    let one = comb_over(alloc, levels.braid(), &[("4.1.3.4.1.2.3", 1)])?;
+    let other = comb_over(alloc, levels.braid(), &[("4.1.3.4.1.3.2", 1)])?;
+    let prefix = comb_over(alloc, levels.braid(), &[("4.1.3.4.1", 1)])?;
+    let _one = normal(alloc, &levels, &memo, &mut seat, &one)?;
+    assert_eq!(rt; memo.hits(&seat), 0);
+    let _other = normal(alloc, &levels, &memo, &mut seat, &other)?;
+    assert_eq!(rt; memo.hits(&seat), 1);
+    let form = normal(alloc, &levels, &memo, &mut seat, &prefix)?;
+    assert_eq!(rt; memo.hits(&seat), 2);
+    let want = Want::Terms(&[("1.2.1.3.4", 100), ("1.2.3.1.2", 1), ("2.3.1.2.4", 100)]);
+    assert!(rt; is_wanted(&form, want));
+    Ok(())
+}
+
+/// These combinations, where each letter is one of the braid.
+fn combs_over(alloc: Global, braid: &Braid, rows: &[(Listed, Want)]) -> Result<Vec<Comb>, Fail>
+    ensures letters { IfOk result (λ cs. AllByRecursion (IsOver braid.now.letters) cs.items) }
+    ensures elements { IfOk result (λ cs. AllByRecursion (AllElements braid.now.field) cs.items) }
+{
+    let mut combs = Vec::new(alloc);
+    for (listed, _) in rows {
+        combs.push(comb_over(alloc, braid, listed)?)?;
+    }
+    Ok(combs)
+}
+
+/// Whether these combinations have the answers that stand beside them, by so many workers.
+fn has_all_answers<R: Threads + Sync>(
+    rt: &R,
+    alloc: Global,
+    levels: &Levels,
+    rows: &[(Listed, Want)],
+    workers: u32,
+) -> Result<bool, Fail>
+    requires { 1 ≤ workers }
+{
+    let combs = combs_over(alloc, levels.braid(), rows)?;
+    let answers = normal_all(rt, alloc, levels, combs.as_slice(), workers)?;
+    let wanted = answers
+        .iter()
+        .zip(rows)
+        .all(|(found, row)| is_wanted(found, row.1));
+    Ok(wanted && answers.len() == rows.len())
+}
+
+/// One worker, several, and more than there are combinations.
+#[test]
+fn many_forms_by_workers(rt: HostRuntime) -> Result<(), Fail> {
+    let alloc = rt.alloc();
+    let levels = levels_up_to(alloc, three_transpositions(alloc)?, 2)?;
+    let rows: [(Listed, Want); 5] = [
+        (&[("3.1", 1)], Want::Terms(&[("1.2", 100), ("2.3", 100)])),
+        (&[("1.2.1", 1), ("2.1.2", -1)], Want::Last(2)),
+        (&[], Want::Terms(&[])),
+        (&[("3.1", 2)], Want::Terms(&[("1.2", 99), ("2.3", 99)])),
+        (&[("", 1)], Want::Terms(&[("", 1)])),
+    ];
+    assert!(rt; has_all_answers(&rt, alloc, &levels, &rows, 1)?);
+    assert!(rt; has_all_answers(&rt, alloc, &levels, &rows, 2)?);
+    assert!(rt; has_all_answers(&rt, alloc, &levels, &rows, 16)?);
     Ok(())
 }

@@ -2,7 +2,7 @@
 use Rattle.std.proofs.Common.{◌≡◌, ◌≢◌, ℕ, ◌<◌, Bool, true, false, true≢false, eqb, ◌&&◌, List, get_or, refl, sym, ap, ◌∙◌, subst, lt-ltb, eq-eqb, arith, Option}
 use Rattle.std.specs.Prelude.{nat_lt}
 use Rattle.std.specs.Int.{bit_at}
-use Rattle.std.proofs.lemmas.Bool.{false_from_ne_true, or_right, and_parts}
+use Rattle.std.proofs.lemmas.Bool.{false_from_ne_true, le-ltb, or_right, and_parts}
 use mathlib.Core.Option.{some}
 use mathlib.Core.Logic.{dite}
 use native.Mathlib.Decide.{ℕ_discrete}
@@ -91,6 +91,7 @@ module _ (g : PlanValue) (s : Tableau) (h : Holds g s) (id : ℕ) (v : View) (at
     pub settled : IsSettled g v
     settled = record {
       all = λ unowed b inside. times_are b inside ∙ ap (λ t. one_if (is_published t)) (all_published unowed b inside);
+      nothing_else = λ b beyond. k.made b ∙ ap (λ t. one_if (t && (is_published (m.stage b) && eqb (maker b) v.worker))) (le-ltb b (blocks g) beyond);
       values = λ j in_j made.
           let low = (edge g j).lower in
           let tended = made_true (is_made_by g m maker v.worker low) (sym (k.made low) ∙ made) in

@@ -1,6 +1,8 @@
 -- A take keeps the rule, and changes the state as its event does.
-use Rattle.std.proofs.Common.{◌≡◌, ◌≢◌, ◌⊎◌, ℕ, ◌-◌, ◌<◌, Bool, true, false, cond, eqb, ◌||◌, List, ◌∷◌, get_or, set, refl, sym, ap, ◌∙◌, subst, inl, inr, ⊎_elim, eq-eqb, ne_eqb, arith}
+use Rattle.std.proofs.Common.{◌≡◌, ◌≢◌, ◌⊎◌, ℕ, ◌-◌, ◌<◌, Bool, true, false, true≢false, cond, eqb, ◌&&◌, ◌||◌, List, ◌∷◌, get_or, set, refl, sym, ap, ◌∙◌, subst, inl, inr, ⊎_elim, eq-eqb, ne_eqb, arith}
+use Rattle.std.specs.Prelude.{nat_lt, Option, Some, None}
 use Rattle.std.proofs.lemmas.Bool.{or_cases, or_right, or_left}
+use Rattle.std.proofs.Math.Bool.{and-false}
 use mathlib.Core.Option.{some, none}
 use prog.Atomic.{either}
 use lib.ListN.{get_elem?}
@@ -15,7 +17,9 @@ use Rattle.nichols_core.proofs.Stages.{put_is, held_by, taken_parked}
 use Rattle.nichols_core.proofs.Events.{every_event_keeps_the_six_laws}
 use Rattle.nichols_core.proofs.Conditions.{true_held}
 use Rattle.nichols_shelf.specs.Plan.{PlanValue}
-use Rattle.nichols_shelf.specs.Lists.{is_in}
+use Rattle.nichols_value.specs.declared.value.BlockValue.{BlockValue}
+use Rattle.nichols_shelf.specs.Lists.{is_in, noted_value}
+use Rattle.nichols_shelf.specs.Untouched.{IsUntouched}
 use Rattle.nichols_shelf.specs.Places.{blocks, edge, desk_place}
 use Rattle.nichols_shelf.specs.Views.{take_view}
 use Rattle.nichols_shelf.specs.Words.{desk_word}
@@ -129,6 +133,30 @@ module _ (g : PlanValue) (s : Tableau) (m : Machine) (laws : SixLaws g.layout.ed
         (λ k _. edges_stay g s.words m st.words b inside word (stage_after_take v.worker (m.stage b)) (put_owed m.owes v.worker b false) k) refl (λ k _ _. refl) (λ k _ x e. e);
   }
 
+-- a block whose desk word is READY is untouched by the pass
+pub untouched : (g : PlanValue) (s : Tableau) (m : Machine) → SixLaws g.layout.edges m → (book : Book) → Stands g s m book → (id : ℕ) (v : View) → get_elem? s.views id ≡ some v → v.live ≡ true
+    → (b : ℕ) → b < blocks g → get_or s.words (desk_place b) 0 ≡ 0 → IsUntouched g b v
+untouched g s m laws book st id v at live b inside is_ready =
+    let ready = desk_ready (m.stage b) (sym (st.words.desk b inside) ∙ is_ready) in
+    let waits : Rattle.nichols_core.specs.SixLaws.IsWaiting (m.stage b) = subst Rattle.nichols_core.specs.SixLaws.IsWaiting (sym ready) tt in
+    let notes = st.slots.notes id v at live in
+    record {
+      unmade = (st.seats.knows id v at live).made b ∙ ap one_if (ap (λ t. nat_lt b (blocks g) && (is_published t && eqb (book.maker b) v.worker)) ready ∙ and-false (nat_lt b (blocks g)));
+      unpicked = λ k in_k up. unnoted (noted_value k v.picked) (λ x is. true≢false (sym (notes.picked k x is).1 ∙ (laws.untouched b waits).0 k in_k up));
+      unlaid = λ k in_k low. unnoted (noted_value k v.laid) (λ x is. true≢false (sym (notes.laid k x is).1 ∙ (laws.untouched b waits).1 k in_k low));
+    }
+  where
+    desk_ready : (t : Stage) → desk_word t ≡ 0 → t ≡ Ready
+    desk_ready Ready e = refl
+    desk_ready (Held x) e = absurd (omega (arith, e))
+    desk_ready (Parked x) e = absurd (omega (arith, e))
+    desk_ready (Resumed x) e = absurd (omega (arith, e))
+    desk_ready Published e = absurd (omega (arith, e))
+
+    unnoted : (o : Option BlockValue) → ((x : BlockValue) → o ≡ Some x → ⊥) → o ≡ None
+    unnoted None h = refl
+    unnoted (Some x) h = absurd (h x refl)
+
 pub take_allowed : (g : PlanValue) (slots id : ℕ) (me : Mine) (b : ℕ) → b < blocks g → me.0.live ≡ true → Allows (Holds g) slots id me (desk_place b) (λ x. either (eqb x 0) 1 x) (take_step (step slots (desk_place b) 0 1 none) me)
 take_allowed g slots id me b inside live s h deep at word =
     let x = get_or s.words (desk_place b) 0 in
@@ -143,5 +171,9 @@ take_allowed g slots id me b inside live s h deep at word =
         laws = every_event_keeps_the_six_laws g.layout.edges (Take me.0.worker b) h.machine h.laws;
         stands = take_stands g s h.machine h.laws h.book h.stands id me.0 at live b inside;
       },
-      ap (λ d. (take_view d x me.0, me.1)) (sym same),
+      (
+        ap (λ d. (take_view d x me.0, me.1)) (sym same),
+        λ is_ready _. subst (λ (p : PlanValue). IsUntouched p (desk_place b - 1) me.0) (sym (h.stands.seats.knows id me.0 at live).plan)
+            (subst (λ d. IsUntouched g d me.0) (sym same) (untouched g s h.machine h.laws h.book h.stands id me.0 at live b inside is_ready)),
+      ),
     )

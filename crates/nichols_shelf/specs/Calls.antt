@@ -10,15 +10,17 @@ use Rattle.nichols_shelf.specs.Places.{edges, edge}
 use Rattle.nichols_shelf.specs.Views.{says_published, take_view, release_view, ask_view, publish_view, draw_view, lay_view, pick_view}
 use Rattle.nichols_shelf.specs.Words.{HasLetter}
 use Rattle.nichols_shelf.specs.Passes.{HasPickedAll, HasPickedNone, HasLaidAll}
+use Rattle.nichols_shelf.specs.Untouched.{IsUntouched}
 use Rattle.nichols_shelf.specs.declared.view.View.{View}
 use Rattle.nichols_shelf.specs.declared.asked.Asked.{Asked}
 use Rattle.nichols_shelf.specs.declared.asked.Asked.TheVariants as asked
 
--- a take of b: true where its step found READY
+-- a take of b: true where its step found READY; the pass then had made nothing of b
 pub record Takes (b : ℕ) (old new : View) (answer : Bool) : Type 0 where
   pub found : ℕ
   pub view : new ≡ take_view b found old
   pub answer_is : answer ≡ (found == 0)
+  pub untouched : answer ≡ true → IsUntouched old.plan b old
 
 -- a release of b
 pub record Releases (b : ℕ) (old new : View) : Type 0 where

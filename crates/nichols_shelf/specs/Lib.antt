@@ -4,6 +4,7 @@ pub mod Lists
 pub mod Places
 pub mod Views
 pub mod Passes
+pub mod Untouched
 pub mod Calls
 pub mod Settled
 pub mod Joining

@@ -9,6 +9,7 @@ use Rattle.nichols_shelf.specs.Plan.{IsRightFor}
 use Rattle.nichols_shelf.specs.Places.{blocks, edges, edge, wait_place}
 use Rattle.nichols_shelf.specs.Views.{take_view, release_view, ask_view, publish_view, draw_view, lay_view, pick_view}
 use Rattle.nichols_shelf.specs.Words.{HasLetter}
+use Rattle.nichols_shelf.specs.Untouched.{IsUntouched}
 use Rattle.nichols_shelf.specs.declared.view.View.{View}
 use Rattle.std.specs.Int.{bit_at}
 
@@ -25,8 +26,9 @@ abbrev pub value_out : List (ℕ × Option Shared) → BlockValue
 value_out [] = Starved
 value_out (x ∷ xs) = value_in x.1
 
+-- a block that is ready was left untouched by every pass
 abbrev pub take_step : Step (Option Shared) → Mine → ℕ → Mine → Type 0
-take_step st m found n = n ≡ (take_view (st.word - 1) found m.0, m.1)
+take_step st m found n = (n ≡ (take_view (st.word - 1) found m.0, m.1)) × (found ≡ 0 → st.word - 1 < blocks m.0.plan → IsUntouched m.0.plan (st.word - 1) m.0)
 
 abbrev pub release_step : Step (Option Shared) → Mine → ℕ → Mine → Type 0
 release_step st m found n = n ≡ (release_view (st.word - 1) found m.0, m.1)

@@ -1,14 +1,18 @@
 //! What shelves and passes show without a step.
 
-ghost use Rattle.std.specs.Prelude.{◌≡◌, ℕ, ◌^◌, ◌<◌, true, false, [], MatchOption};
+ghost use Rattle.std.specs.Prelude.{◌≡◌, ℕ, ◌^◌, ◌<◌, ◌≤◌, true, false, [], MatchOption};
+ghost use Rattle.nichols_tensor.specs.declared.TheConstants.{LETTER_LIMIT};
+ghost use Rattle.nichols_core.specs.Conditions.{IsInto, IsOutOf};
 ghost use Rattle.nichols_shelf.specs.Lists.{is_in};
 ghost use Rattle.nichols_shelf.specs.Places.{blocks};
 ghost use Rattle.nichols_shelf.specs.Plan.{key_at};
 ghost use Rattle.nichols_shelf.specs.Passes.{plan_of, view_of};
 ghost use Rattle.nichols_shelf.specs.Settled.{OwesNothing};
 
+use crate::calls::is_published;
 use crate::pass::Pass;
 use crate::shelf::Shelf;
+use crate::tables::letter_place;
 use nichols_core::Layout;
 use nichols_value::BlockKey;
 
@@ -35,6 +39,65 @@ impl Shelf {
         ensures { result.now ≡ key_at (plan_of self.now) block }
     {
         &self.plan.keys[block as usize]
+    }
+
+    /// The number of the edge of that letter into the block, by a look at a table.
+    pub fn edge_into(&self, block: u32, letter: u8) -> Option<usize>
+        requires block { block < blocks (plan_of self.now) }
+        requires from { 1 ≤ letter }
+        requires to { letter ≤ LETTER_LIMIT }
+        ensures { MatchOption result
+            ((k : ℕ) → IsInto (plan_of self.now).layout.edges block letter k → ⊥)
+            (λ k. IsInto (plan_of self.now).layout.edges block letter k) }
+    {
+        self.plan.layout.meets_its_rules();
+        let number = self.entries[letter_place(block, letter)];
+        if number >= self.plan.layout.edges.len() {
+            return None;
+        }
+        let edge = self.plan.layout.edge(number);
+        if edge.upper == block && edge.letter == letter {
+            Some(number)
+        } else {
+            None
+        }
+    }
+
+    /// The number of the edge of that letter out of the block, by a look at a table.
+    pub fn edge_out(&self, block: u32, letter: u8) -> Option<usize>
+        requires block { block < blocks (plan_of self.now) }
+        requires from { 1 ≤ letter }
+        requires to { letter ≤ LETTER_LIMIT }
+        ensures { MatchOption result
+            ((k : ℕ) → IsOutOf (plan_of self.now).layout.edges block letter k → ⊥)
+            (λ k. IsOutOf (plan_of self.now).layout.edges block letter k) }
+    {
+        self.plan.layout.meets_its_rules();
+        let number = self.exits[letter_place(block, letter)];
+        if number >= self.plan.layout.edges.len() {
+            return None;
+        }
+        let edge = self.plan.layout.edge(number);
+        if edge.lower == block && edge.letter == letter {
+            Some(number)
+        } else {
+            None
+        }
+    }
+
+    /// Whether the block was ready at a look at its desk word. It is no step, and nothing follows from it.
+    pub fn seems_ready(&self, block: u32) -> bool
+        requires { block < blocks (plan_of self.now) }
+    {
+        self.board.shared.peek(1 + block as usize) == 0
+    }
+
+    /// Whether the block was published at a look at its wait word. It is no step, and nothing follows from it.
+    pub fn seems_published(&self, block: u32) -> bool
+        requires { block < blocks (plan_of self.now) }
+    {
+        let word = 1 + self.block_count() + block as usize;
+        is_published(self.board.shared.peek(word))
     }
 
     /// The rows limit under which values are right.

@@ -1,17 +1,19 @@
 -- The list of all words of a length: which words it has, that it rises, and which words stand before one of them.
-use Rattle.std.proofs.Common.{◌≡◌, ℕ, zero, suc, ◌<◌, List, [], ◌∷◌, ◌++◌, map, length, refl, sym, ◌∙◌, ap, subst, arith, inl, inr}
-use Rattle.std.specs.List.{AllByRecursion, Contains}
+use Rattle.std.proofs.Common.{◌≡◌, ℕ, zero, suc, ◌+◌, ◌*◌, ◌^◌, ◌<◌, List, [], ◌∷◌, ◌++◌, map, length, refl, sym, ◌∙◌, ap, ap₂, subst, arith, inl, inr}
+use Rattle.std.specs.List.{AllByRecursion, Contains, flat_map}
 use Rattle.std.specs.Ordering.{is_lt, nat_cmp, ordering_then}
 use Rattle.std.specs.Cmp.{nat_cmp_is}
 use Rattle.std.specs.Cmp.Lexicographic.{slice_cmp}
 use Rattle.std.specs.declared.cmp.Ordering.{Ordering}
 use Rattle.std.specs.declared.cmp.Ordering.TheVariants.{Less, Equal, Greater}
+use Rattle.std.proofs.Math.Nat.{pow-zero, pow-succ'}
+use Rattle.std.proofs.lemmas.List.{length-append, length-map}
 use Rattle.std.proofs.lemmas.Cmp.{nat_list_cmp_total, tied_itself}
 use Rattle.nichols_tensor.specs.Combination.{Combination, AllAmong}
 use Rattle.nichols_tensor.specs.Words.{up_to, IsWordOver, IsOver, HasDegree, words, words_before}
 use Rattle.nichols_tensor.specs.WordOrder.{word_cmp, IsRising}
 use Rattle.nichols_tensor.proofs.Entries.{contains_none, contains_first, contains_cases, in_map, in_flat_map, from_map, from_flat_map, in_filter, from_filter}
-use Rattle.nichols_tensor.proofs.Letters.{in_up_to, from_up_to}
+use Rattle.nichols_tensor.proofs.Letters.{in_up_to, from_up_to, up_to_length}
 use Rattle.nichols_tensor.proofs.Over.{all-append, all-weaker}
 use Rattle.nichols_tensor.proofs.Pushed.{pushed_length}
 use Rattle.nichols_tensor.proofs.Rising.{AllOrdered, rising-map, rising-flat_map, less_by_test}
@@ -127,3 +129,18 @@ pub among_words : (n m : ℕ) (f : Combination) → HasDegree m f → IsOver n f
 unfolding AllAmong
 among_words n m [] d o = tt
 among_words n m (t ∷ f) d o = (in_words n m t.word d.0 o.0, among_words n m f d.1 o.1)
+
+-- ---- how many there are
+
+prefixed_length : (ws : List (List ℕ)) (letters : List ℕ) → length (flat_map (λ a. map (λ w. a ∷ w) ws) letters) ≡ length letters * length ws
+prefixed_length ws [] = let e : ◌≡◌ {A = ℕ} 0 (0 * length ws) = omega arith in e
+prefixed_length ws (a ∷ letters) =
+    length-append (map (λ w. a ∷ w) ws) (flat_map (λ b. map (λ w. b ∷ w) ws) letters) ∙ ap₂ (λ x y. x + y) (length-map ws (λ w. a ∷ w)) (prefixed_length ws letters) ∙ one (length letters) (length ws)
+  where
+    one : (l m : ℕ) → m + l * m ≡ suc l * m
+    one l m = omega arith
+
+pub words_length : (n m : ℕ) → length (words n m) ≡ n ^ m
+unfolding words
+words_length n zero = sym (pow-zero n)
+words_length n (suc m) = prefixed_length (words n m) (up_to n) ∙ ap₂ (λ a b. a * b) (up_to_length n) (words_length n m) ∙ sym (pow-succ' n m)

@@ -2,6 +2,11 @@ pub mod Entries
 pub mod Sparse
 pub mod Values
 pub mod Linear
+pub mod Maps
+pub mod Products
+pub mod Splittings
+pub mod Spans
+pub mod Dependent
 pub mod Enumeration
 pub mod Order
 pub mod Terms

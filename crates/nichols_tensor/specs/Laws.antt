@@ -1,9 +1,10 @@
 -- What the laws of this crate say.
-use Rattle.std.specs.Prelude.{◌≡◌, ◌≢◌, ◌↔◌, ℕ, [], flat_map}
-use Rattle.nichols_field.specs.Field.{FieldValue, IsField}
-use Rattle.nichols_tensor.specs.Combination.{Combination, HasSameValues, words_of, AllElements, AllAmong}
+use Rattle.std.specs.Prelude.{◌≡◌, ◌≢◌, ◌↔◌, ℕ, List, [], flat_map}
+use Rattle.nichols_field.specs.Field.{FieldValue, IsField, sum_by, times}
+use Rattle.nichols_tensor.specs.Combination.{Combination, value_at, HasSameValues, words_of, AllElements, AllAmong}
 use Rattle.nichols_tensor.specs.InOrder.{in_order}
 use Rattle.nichols_tensor.specs.Parts.{part_of_degree, degrees_of}
+use Rattle.nichols_tensor.specs.Product.{product, splittings, Splitting}
 use Rattle.nichols_tensor.specs.WordOrder.{IsOrdered}
 use Rattle.nichols_tensor.specs.Words.{IsOver, HasDegree}
 
@@ -36,3 +37,13 @@ pub record HasPartsByDegree (f : Combination) : Type 0 where
 -- each combination has its parts
 abbrev pub PartsHaveTheirDegrees : Type 0
 PartsHaveTheirDegrees = (f : Combination) → HasPartsByDegree f
+
+-- the product has at a word the sum, over its splittings, of the products of the values of both parts
+abbrev pub ProductIsBySplittings : Type 0
+ProductIsBySplittings =
+    (field : FieldValue) → IsField field → (f g : Combination) (w : List ℕ) →
+    value_at field (product field f g) w ≡ sum_by field (λ (s : Splitting). times field (value_at field f s.front) (value_at field g s.back)) (splittings w)
+
+-- the product is associative
+abbrev pub ProductIsAssociative : Type 0
+ProductIsAssociative = (field : FieldValue) → IsField field → (f g h : Combination) → HasSameValues field (product field (product field f g) h) (product field f (product field g h))

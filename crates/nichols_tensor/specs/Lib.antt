@@ -7,6 +7,8 @@ pub mod Positions
 pub mod Parts
 pub mod InOrder
 pub mod Relation
+pub mod Product
+pub mod Span
 pub mod Laws
 -- what invariants and private functions use
 pub mod Inline

@@ -1,6 +1,11 @@
 //! Braids from tables of numbers.
 
-use nichols_braid::{Braid, Scalars};
+ghost use Rattle.std.specs.Prelude.{IfOk};
+ghost use Rattle.std.specs.List.{AllByRecursion};
+ghost use Rattle.nichols_braid.specs.GivenEntries.{IsEntryOf};
+ghost use Rattle.nichols_braid.specs.GivenScalars.{AreEntriesOf, given_scalars};
+
+use nichols_braid::{Braid, Entry, Scalars};
 use nichols_field::Field;
 use std::alloc::{AllocError, Global};
 use std::test::Fail;
@@ -14,11 +19,35 @@ fn table(alloc: Global, entries: &[&[i64]]) -> Result<Vec<Vec<i64>>, AllocError>
     Ok(out)
 }
 
-fn braid(alloc: Global, modulus: i64, rack: &[&[i64]], scalars: &Scalars) -> Result<Braid, Fail> {
-    let field = Field::new(modulus).map_err(|_| "no field")?;
+/// The braid of a rack with these scalars.
+fn braid(alloc: Global, field: Field, rack: &[&[i64]], scalars: &Scalars) -> Result<Braid, Fail>
+    requires { AreEntriesOf field (given_scalars scalars.now) }
+{
     let rack = table(alloc, rack)?;
     let braid = Braid::new(alloc, field, rack.as_slice(), scalars).map_err(|_| "no braid")?;
     Ok(braid)
+}
+
+/// Integers as entries.
+fn whole_row(alloc: Global, _field: Field, row: &[i64]) -> Result<Vec<Entry>, AllocError>
+    ensures { IfOk result (λ v. AllByRecursion (IsEntryOf _field) v.items) }
+{
+    let mut out = Vec::new(alloc);
+    for v in row {
+        out.push(Entry::Whole(*v))?;
+    }
+    Ok(out)
+}
+
+/// The scalars of rows of integers.
+fn whole_table(alloc: Global, field: Field, rows: &[&[i64]]) -> Result<Scalars, AllocError>
+    ensures { IfOk result (λ s. AreEntriesOf field (given_scalars s)) }
+{
+    let mut out = Vec::new(alloc);
+    for row in rows {
+        out.push(whole_row(alloc, field, row)?)?;
+    }
+    Ok(Scalars::Table(out))
 }
 
 /// The braid of a rack and a table of scalars.
@@ -28,8 +57,9 @@ pub fn braid_with_table(
     rack: &[&[i64]],
     scalars: &[&[i64]],
 ) -> Result<Braid, Fail> {
-    let scalars = Scalars::Table(table(alloc, scalars)?);
-    braid(alloc, modulus, rack, &scalars)
+    let field = Field::new(modulus).map_err(|_| "no field")?;
+    let scalars = whole_table(alloc, field, scalars)?;
+    braid(alloc, field, rack, &scalars)
 }
 
 /// The braid of a rack, with one scalar everywhere.
@@ -39,7 +69,8 @@ pub fn braid_with_constant(
     rack: &[&[i64]],
     scalar: i64,
 ) -> Result<Braid, Fail> {
-    braid(alloc, modulus, rack, &Scalars::Constant(scalar))
+    let field = Field::new(modulus).map_err(|_| "no field")?;
+    braid(alloc, field, rack, &Scalars::Constant(Entry::Whole(scalar)))
 }
 
 /// The three transpositions of three points over 101 elements, with the scalar -1.

@@ -1,13 +1,15 @@
 -- The lines of refusals.
 use Rattle.std.specs.Prelude.{ℕ, ℤ, ◌&&◌, List, ◌++◌, codes, decimal, map, take, nat_le, Option, Some, option_map, if◌then◌else◌}
 use Rattle.std.specs.Fmt.{signed_decimal}
+use Rattle.nichols_field.specs.Pairs.{Pair}
 use Rattle.nichols_tensor.specs.declared.TheConstants.{LETTER_LIMIT, WORD_LIMIT}
 use Rattle.nichols_braid.specs.Faults.{TableFault, letters, rack_shape, rack_entry, not_bijective, not_distributive, cocycle_shape, cocycle_zero, not_cocycle}
+use Rattle.nichols_expression.specs.Printed.{parts_text}
 use Rattle.nichols_expression.specs.declared.TheConstants.{NUMBER_LIMIT, TERM_LIMIT, EXPRESSION_LIMIT}
 use Rattle.nichols_expression.specs.declared.faults.Cause.{Cause}
 use Rattle.nichols_expression.specs.declared.faults.Cause.TheVariants.{Early, Byte, Letter, LongNumber, LongWord, Terms, Surplus}
 use Rattle.nichols_input.specs.Keys.{key_name}
-use Rattle.nichols_input.specs.Refusal.{Refusal as DocumentRefusal, refusal_of, not_toml, missing_key, unknown_key, wrong_kind, modulus, tables, expression}
+use Rattle.nichols_input.specs.Refusal.{Refusal as DocumentRefusal, refusal_of, not_toml, missing_key, unknown_key, wrong_kind, modulus, root, tables, order, expression}
 use Rattle.nichols_input.specs.declared.TheConstants.{DOCUMENT_LIMIT}
 use Rattle.nichols_input.specs.declared.key.Key.{Key}
 use Rattle.nichols_text.specs.declared.key_line.TheConstants.{KEY_LIMIT}
@@ -47,6 +49,14 @@ wrong_kind_text key = codes "refused: wrong kind at key " ++ key_name key ++ cod
 unfoldable pub modulus_text : ℤ → List ℕ
 modulus_text p = codes "refused: modulus " ++ signed_decimal p ++ codes " not in the list\n"
 
+-- `refused: extension has root <r>`
+unfoldable pub root_text : ℕ → List ℕ
+root_text r = codes "refused: extension has root " ++ decimal r ++ codes "\n"
+
+-- `refused: order wrong at place <place>`
+unfoldable pub order_text : ℕ → List ℕ
+order_text place = codes "refused: order wrong at place " ++ decimal place ++ codes "\n"
+
 -- ---- rows and scalars
 
 -- `refused: <n> letters outside 1 to <limit>`
@@ -66,13 +76,13 @@ unfoldable pub not_bijective_text : ℕ → ℕ → ℕ → ℕ → List ℕ
 not_bijective_text i j k v = codes "refused: rack row " ++ decimal i ++ codes " has " ++ decimal v ++ codes " at places " ++ decimal j ++ codes " and " ++ decimal k ++ codes "\n"
 
 -- three letters and the two sides of a law that differ there: `<i> <j> <k>: <left> and <right>`
-unfoldable pub sides_text : ℕ → ℕ → ℕ → ℕ → ℕ → List ℕ
+unfoldable pub sides_text : ℕ → ℕ → ℕ → List ℕ → List ℕ → List ℕ
 sides_text i j k left right =
-    decimal i ++ codes " " ++ decimal j ++ codes " " ++ decimal k ++ codes ": " ++ decimal left ++ codes " and " ++ decimal right ++ codes "\n"
+    decimal i ++ codes " " ++ decimal j ++ codes " " ++ decimal k ++ codes ": " ++ left ++ codes " and " ++ right ++ codes "\n"
 
 -- `refused: not distributive at <i> <j> <k>: <left> and <right>`
 unfoldable pub not_distributive_text : ℕ → ℕ → ℕ → ℕ → ℕ → List ℕ
-not_distributive_text i j k left right = codes "refused: not distributive at " ++ sides_text i j k left right
+not_distributive_text i j k left right = codes "refused: not distributive at " ++ sides_text i j k (decimal left) (decimal right)
 
 -- `refused: cocycle row <r> is missing, surplus or of a wrong length`
 unfoldable pub cocycle_shape_text : ℕ → List ℕ
@@ -83,8 +93,8 @@ unfoldable pub cocycle_zero_text : ℕ → ℕ → List ℕ
 cocycle_zero_text i j = codes "refused: cocycle entry " ++ decimal i ++ codes " " ++ decimal j ++ codes " is zero\n"
 
 -- `refused: not a cocycle at <i> <j> <k>: <left> and <right>`
-unfoldable pub not_cocycle_text : ℕ → ℕ → ℕ → ℕ → ℕ → List ℕ
-not_cocycle_text i j k left right = codes "refused: not a cocycle at " ++ sides_text i j k left right
+unfoldable pub not_cocycle_text : ℕ → ℕ → ℕ → Pair → Pair → List ℕ
+not_cocycle_text i j k left right = codes "refused: not a cocycle at " ++ sides_text i j k (parts_text left.low left.high) (parts_text right.low right.high)
 
 -- the line of rows and scalars that aren't a braid
 abbrev pub table_line : TableFault → List ℕ
@@ -126,7 +136,9 @@ document_line (missing_key key) = missing_key_text key
 document_line (unknown_key text) = unknown_key_text text
 document_line (wrong_kind key) = wrong_kind_text key
 document_line (modulus p) = modulus_text p
+document_line (root r) = root_text r
 document_line (tables fault) = table_line fault
+document_line (order place) = order_text place
 document_line (expression number place cause) = expression_text number place cause
 
 -- the line of a refusal; want of memory has none

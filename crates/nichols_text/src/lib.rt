@@ -17,7 +17,9 @@ pub use end::{EndLine, end_text};
 pub use expressions::{beyond_text, form_text, image_text};
 pub use header::{header_text, symmetrize_header};
 pub use line::{Line, memory_line, read_fault_line, usage_line};
+pub use number::{push_number, push_numbered};
 pub use refusal::{Refusal, refusal_text};
+pub use word::{push_form, push_word};
 
 #[cfg(test)]
 mod tests;

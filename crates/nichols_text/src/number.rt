@@ -6,8 +6,8 @@ ghost use Rattle.std.specs.Fmt.{signed_decimal};
 use itoa::Buffer;
 use std::alloc::{AllocError, Global};
 
-/// Puts a number behind a text.
-pub(crate) fn push_number(out: &mut Vec<u8>, n: u64) -> Result<(), AllocError>
+/// Puts a number behind a text, in decimal.
+pub fn push_number(out: &mut Vec<u8>, n: u64) -> Result<(), AllocError>
     ensures { OnOk result (out.new.items ≡ out.old.items ++ decimal n) }
 {
     let mut buffer = Buffer::new();
@@ -25,12 +25,7 @@ pub(crate) fn push_integer(out: &mut Vec<u8>, n: i64) -> Result<(), AllocError>
 }
 
 /// Puts a number between two texts behind a text.
-pub(crate) fn push_numbered(
-    out: &mut Vec<u8>,
-    before: &str,
-    n: u64,
-    after: &str,
-) -> Result<(), AllocError>
+pub fn push_numbered(out: &mut Vec<u8>, before: &str, n: u64, after: &str) -> Result<(), AllocError>
     ensures { OnOk result (out.new.items ≡ out.old.items ++ (before.now ++ decimal n ++ after.now)) }
 {
     out.extend_from_slice(before.as_bytes())?;

@@ -2,7 +2,7 @@
 
 ghost use Rattle.std.specs.Prelude.{◌≡◌, ◌++◌, Some, IfOk, OnOk, codes, option_map};
 ghost use Rattle.nichols_input.specs.Keys.{key_name};
-ghost use Rattle.nichols_input.specs.Refusal.{refusal_of};
+ghost use Rattle.nichols_input.specs.Refusal.{field_refusal, refusal_of};
 ghost use Rattle.nichols_text.specs.Refusals.{cause_words, document_line, expression_text, modulus_text, refusal_line};
 
 use crate::key_line::unknown_key_text;
@@ -48,7 +48,7 @@ pub fn refusal_text(alloc: Global, refusal: &Refusal) -> Result<Vec<u8>, AllocEr
 }
 
 /// The line of a document that isn't read.
-#[tactic(auto, unfolding(crate::specs::Refusals::not_toml_text, crate::specs::Refusals::missing_key_text, crate::specs::Refusals::wrong_kind_text))]
+#[tactic(auto, unfolding(crate::specs::Refusals::not_toml_text, crate::specs::Refusals::missing_key_text, crate::specs::Refusals::wrong_kind_text, crate::specs::Refusals::order_text))]
 fn input_text(alloc: Global, fault: &InputFault) -> Result<Vec<u8>, AllocError>
     ensures { IfOk result (λ r. option_map document_line (refusal_of fault.now) ≡ Some r.items) }
 {
@@ -57,8 +57,14 @@ fn input_text(alloc: Global, fault: &InputFault) -> Result<Vec<u8>, AllocError>
         InputFault::MissingKey(key) => key_text(alloc, "refused: missing key ", *key),
         InputFault::UnknownKey(key) => unknown_key_text(alloc, key),
         InputFault::WrongKind(key) => key_text(alloc, "refused: wrong kind at key ", *key),
-        InputFault::Modulus(FieldFault::OutsideList(p)) => modulus_text(alloc, *p),
+        InputFault::Modulus(fault) => field_text(alloc, *fault),
         InputFault::Braid(tables) => tables_text(alloc, tables),
+        InputFault::Order(place) => numbered_text(
+            alloc,
+            "refused: order wrong at place ",
+            u64::from(*place),
+            "\n",
+        ),
         InputFault::Expression(number, place, cause) => {
             expression_text(alloc, *number, *place, *cause)
         }
@@ -74,6 +80,19 @@ fn key_text(alloc: Global, before: &str, key: Key) -> Result<Vec<u8>, AllocError
     out.extend_from_slice(key.name().as_bytes())?;
     out.extend_from_slice(b"\n")?;
     Ok(out)
+}
+
+/// The line of numbers that no field has.
+#[tactic(auto, unfolding(crate::specs::Refusals::root_text))]
+fn field_text(alloc: Global, fault: FieldFault) -> Result<Vec<u8>, AllocError>
+    ensures { IfOk result (λ r. document_line (field_refusal fault) ≡ r.items) }
+{
+    match fault {
+        FieldFault::OutsideList(p) => modulus_text(alloc, p),
+        FieldFault::Root(r) => {
+            numbered_text(alloc, "refused: extension has root ", u64::from(r), "\n")
+        }
+    }
 }
 
 /// The line of a modulus that is no field's.

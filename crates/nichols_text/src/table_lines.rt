@@ -1,11 +1,13 @@
 //! The lines of rows and scalars that aren't a braid.
 
-ghost use Rattle.std.specs.Prelude.{◌≡◌, ◌++◌, Some, IfOk, OnOk, option_map};
+ghost use Rattle.std.specs.Prelude.{◌≡◌, ◌++◌, Some, IfOk, OnOk, codes, decimal, option_map};
+ghost use Rattle.nichols_field.specs.Pairs.{pair};
 ghost use Rattle.nichols_braid.specs.FaultAnswers.{table_fault_in};
-ghost use Rattle.nichols_text.specs.Refusals.{cocycle_zero_text, letters_text, not_bijective_text, not_cocycle_text, not_distributive_text, rack_entry_text, sides_text, table_line};
+ghost use Rattle.nichols_text.specs.Refusals.{cocycle_zero_text, letters_text, not_bijective_text, not_cocycle_text, not_distributive_text, rack_entry_text, table_line};
 
 use crate::number::{numbered_text, push_integer, push_number, push_numbered};
-use nichols_braid::BraidFault;
+use crate::word::push_parts;
+use nichols_braid::{BraidFault, Shown};
 use nichols_tensor::LETTER_LIMIT;
 use std::alloc::{AllocError, Global};
 
@@ -90,7 +92,7 @@ fn not_bijective_text(alloc: Global, i: u8, j: u8, k: u8, v: u8) -> Result<Vec<u
 }
 
 /// The line for a table that isn't distributive at i, j, k: there `i ▷ (j ▷ k)` is `left`, and `(i ▷ j) ▷ (i ▷ k)` is `right`.
-#[tactic(auto, unfolding(crate::specs::Refusals::not_distributive_text))]
+#[tactic(auto, unfolding(crate::specs::Refusals::not_distributive_text, crate::specs::Refusals::sides_text))]
 fn not_distributive_text(
     alloc: Global,
     i: u8,
@@ -102,7 +104,11 @@ fn not_distributive_text(
     ensures { IfOk result (λ r. r.items ≡ not_distributive_text i j k left right) }
 {
     let mut out = Vec::from_slice(alloc, b"refused: not distributive at ")?;
-    push_sides(&mut out, i, j, k, u32::from(left), u32::from(right))?;
+    push_letters(&mut out, i, j, k)?;
+    push_number(&mut out, u64::from(left))?;
+    out.extend_from_slice(b" and ")?;
+    push_number(&mut out, u64::from(right))?;
+    out.extend_from_slice(b"\n")?;
     Ok(out)
 }
 
@@ -120,33 +126,29 @@ fn cocycle_zero_text(alloc: Global, i: u8, j: u8) -> Result<Vec<u8>, AllocError>
 }
 
 /// The line for scalars that are no cocycle at i, j, k: there `q(i, j ▷ k) q(j, k)` is `left`, and `q(i ▷ j, i ▷ k) q(i, k)` is `right`.
-#[tactic(auto, unfolding(crate::specs::Refusals::not_cocycle_text))]
+#[tactic(auto, unfolding(crate::specs::Refusals::not_cocycle_text, crate::specs::Refusals::sides_text))]
 fn not_cocycle_text(
     alloc: Global,
     i: u8,
     j: u8,
     k: u8,
-    left: u32,
-    right: u32,
+    left: Shown,
+    right: Shown,
 ) -> Result<Vec<u8>, AllocError>
-    ensures { IfOk result (λ r. r.items ≡ not_cocycle_text i j k left right) }
+    ensures { IfOk result (λ r. r.items ≡ not_cocycle_text i j k (pair left.low left.high) (pair right.low right.high)) }
 {
     let mut out = Vec::from_slice(alloc, b"refused: not a cocycle at ")?;
-    push_sides(&mut out, i, j, k, left, right)?;
+    push_letters(&mut out, i, j, k)?;
+    push_parts(&mut out, left.low, left.high)?;
+    out.extend_from_slice(b" and ")?;
+    push_parts(&mut out, right.low, right.high)?;
+    out.extend_from_slice(b"\n")?;
     Ok(out)
 }
 
-/// Puts three letters behind a text, and the two sides of a law that differ there.
-#[tactic(auto, unfolding(crate::specs::Refusals::sides_text))]
-fn push_sides(
-    out: &mut Vec<u8>,
-    i: u8,
-    j: u8,
-    k: u8,
-    left: u32,
-    right: u32,
-) -> Result<(), AllocError>
-    ensures { OnOk result (out.new.items ≡ out.old.items ++ sides_text i j k left right) }
+/// Puts three letters behind a text, and a colon.
+fn push_letters(out: &mut Vec<u8>, i: u8, j: u8, k: u8) -> Result<(), AllocError>
+    ensures { OnOk result (out.new.items ≡ out.old.items ++ (decimal i ++ codes " " ++ decimal j ++ codes " " ++ decimal k ++ codes ": ")) }
 {
     push_number(out, u64::from(i))?;
     out.extend_from_slice(b" ")?;
@@ -154,9 +156,5 @@ fn push_sides(
     out.extend_from_slice(b" ")?;
     push_number(out, u64::from(k))?;
     out.extend_from_slice(b": ")?;
-    push_number(out, u64::from(left))?;
-    out.extend_from_slice(b" and ")?;
-    push_number(out, u64::from(right))?;
-    out.extend_from_slice(b"\n")?;
     Ok(())
 }

@@ -1,5 +1,7 @@
+ghost use Rattle.nichols_field.specs.Field.{IsElement};
+
 use super::*;
-use nichols_braid::{Braid, BraidFault};
+use nichols_braid::{Braid, BraidFault, Order, Shown};
 use nichols_field::{Field, FieldFault};
 use nichols_input::{Cause, InputFault, Key, KeyText};
 use nichols_testing::{braid_with_constant, word};
@@ -22,10 +24,37 @@ fn form(alloc: Global, field: Field) -> Result<Comb, AllocError> {
     Comb::sum_of(alloc, field, &mut terms)
 }
 
+/// A form over nine elements with t² = t + 1: `2*1.2 + (0,1)*2.3`.
+fn form_over_nine(alloc: Global, field: Field) -> Result<Comb, AllocError> {
+    let mut terms = [
+        Term {
+            word: word("1.2"),
+            coefficient: field.from_i64(-1),
+        },
+        Term {
+            word: word("2.3"),
+            coefficient: element(field, 0, 1),
+        },
+    ];
+    Comb::sum_of(alloc, field, &mut terms)
+}
+
+/// The element u + v t, or 0 where the field has none.
+fn element(field: Field, u: i64, v: i64) -> u32
+    ensures { IsElement field result }
+{
+    if field.is_extended() {
+        field.joined(u, v)
+    } else {
+        field.from_i64(0)
+    }
+}
+
 #[test]
 fn degrees(rt: HostRuntime) -> Result<(), Fail> {
     let alloc = rt.alloc();
     let field = Field::new(101).map_err(|_| "no field")?;
+    let plain = Order::plain(24);
     let basis = [Word::empty(), word("24.1")];
     let mut relations = Vec::new(alloc);
     relations.push(Relation {
@@ -36,15 +65,35 @@ fn degrees(rt: HostRuntime) -> Result<(), Fail> {
         candidate: word("3.3"),
         form: Comb::zero(alloc),
     })?;
-    let whole = degree_text(alloc, 2, &basis, relations.as_slice(), false)?;
+    let whole = degree_text(alloc, field, &plain, 2, &basis, relations.as_slice(), false)?;
     assert!(rt;
         whole.as_slice()
             == b"degree 2 dimension 2\nbasis e 24.1\nrelation 3.1 = 100*1.2 + 2*2.3\nrelation 3.3 = 0\n".as_slice()
     );
-    let brief = degree_text(alloc, 2, &basis, relations.as_slice(), true)?;
+    let brief = degree_text(alloc, field, &plain, 2, &basis, relations.as_slice(), true)?;
     assert!(rt; brief.as_slice() == b"degree 2 dimension 2\n".as_slice());
-    let empty = degree_text(alloc, 60, &[], &[], false)?;
+    let empty = degree_text(alloc, field, &plain, 60, &[], &[], false)?;
     assert!(rt; empty.as_slice() == b"degree 60 dimension 0\nbasis\n".as_slice());
+    Ok(())
+}
+
+/// Ranks are printed as the letters that have them, and elements by their two numbers.
+#[test]
+fn degrees_in_an_order(rt: HostRuntime) -> Result<(), Fail> {
+    let alloc = rt.alloc();
+    let field = Field::extended(3, 1, 1).map_err(|_| "no field")?;
+    let order = Order::new(3, &[3, 1, 2]).map_err(|_| "no order")?;
+    let basis = [word("1.2"), word("2.3")];
+    let mut relations = Vec::new(alloc);
+    relations.push(Relation {
+        candidate: word("3.1"),
+        form: form_over_nine(alloc, field)?,
+    })?;
+    let text = degree_text(alloc, field, &order, 2, &basis, relations.as_slice(), false)?;
+    assert!(rt;
+        text.as_slice()
+            == b"degree 2 dimension 2\nbasis 3.1 1.2\nrelation 2.3 = 2*3.1 + (0,1)*1.2\n".as_slice()
+    );
     Ok(())
 }
 
@@ -52,9 +101,13 @@ fn degrees(rt: HostRuntime) -> Result<(), Fail> {
 fn headers(rt: HostRuntime) -> Result<(), Fail> {
     let alloc = rt.alloc();
     let braid = braid_with_constant(alloc, 65521, &[&[1]], -1)?;
-    let header = header_text(alloc, &braid, 12, 1024)?;
+    let plain = Order::plain(1);
+    if u32::from(braid.letters()) != 1 {
+        return Ok(assert!(rt; false));
+    }
+    let header = header_text(alloc, &braid, &plain, 12, 1024)?;
     assert!(rt; header.as_slice() == b"nichols p 65521 letters 1 degree 12 rows 1024\n".as_slice());
-    let symmetrize = symmetrize_header(alloc, &braid)?;
+    let symmetrize = symmetrize_header(alloc, &braid, &plain)?;
     assert!(rt; symmetrize.as_slice() == b"nichols symmetrize p 65521 letters 1\n".as_slice());
     Ok(())
 }
@@ -139,12 +192,14 @@ fn expressions(rt: HostRuntime) -> Result<(), Fail> {
     let alloc = rt.alloc();
     let field = Field::new(101).map_err(|_| "no field")?;
     let comb = form(alloc, field)?;
-    let image = image_text(alloc, 12, &comb)?;
+    let plain = Order::plain(3);
+    let image = image_text(alloc, field, &plain, 12, &comb)?;
     assert!(rt; image.as_slice() == b"image 12 = 100*1.2 + 2*2.3\n".as_slice());
-    let zero = image_text(alloc, 1, &Comb::zero(alloc))?;
+    let zero = image_text(alloc, field, &plain, 1, &Comb::zero(alloc))?;
     assert!(rt; zero.as_slice() == b"image 1 = 0\n".as_slice());
-    let normal = form_text(alloc, 1000, &comb)?;
-    assert!(rt; normal.as_slice() == b"form 1000 = 100*1.2 + 2*2.3\n".as_slice());
+    let order = Order::new(3, &[3, 2, 1]).map_err(|_| "no order")?;
+    let normal = form_text(alloc, field, &order, 1000, &comb)?;
+    assert!(rt; normal.as_slice() == b"form 1000 = 100*3.2 + 2*2.1\n".as_slice());
     let beyond = beyond_text(alloc, 2, 60)?;
     assert!(rt; beyond.as_slice() == b"form 2 beyond 60\n".as_slice());
     Ok(())
@@ -181,8 +236,17 @@ const TABLES: [(BraidFault, &str); 8] = [
         "refused: cocycle entry 1 2 is zero\n",
     ),
     (
-        BraidFault::NotCocycle(1, 3, 1, 2, 65520),
-        "refused: not a cocycle at 1 3 1: 2 and 65520\n",
+        BraidFault::NotCocycle(
+            1,
+            3,
+            1,
+            Shown { low: 2, high: 0 },
+            Shown {
+                low: 0,
+                high: 65520,
+            },
+        ),
+        "refused: not a cocycle at 1 3 1: 2 and (0,65520)\n",
     ),
 ];
 
@@ -258,6 +322,22 @@ fn refusals_of_documents(rt: HostRuntime) -> Result<(), Fail> {
             "refused: modulus -7 not in the list\n",
         ),
         (
+            Refusal::Input(InputFault::Modulus(FieldFault::Root(65520))),
+            "refused: extension has root 65520\n",
+        ),
+        (
+            Refusal::Input(InputFault::Order(25)),
+            "refused: order wrong at place 25\n",
+        ),
+        (
+            Refusal::Input(InputFault::WrongKind(Key::Extension)),
+            "refused: wrong kind at key extension\n",
+        ),
+        (
+            Refusal::Input(InputFault::WrongKind(Key::Order)),
+            "refused: wrong kind at key order\n",
+        ),
+        (
             Refusal::LongExpression(3),
             "refused: expression 3 longer than 7 letters\n",
         ),
@@ -294,6 +374,6 @@ fn single_lines(rt: HostRuntime) {
     assert!(rt; read_fault_line() == b"read fault\n".as_slice());
     assert!(rt;
         usage_line()
-            == b"usage: nichols algebra or reduce or symmetrize or points K [--degree N] [--rows N] [--workers N] [--window N] [--brief]\n".as_slice()
+            == b"usage: nichols algebra or reduce or symmetrize or points K or table or cover [--degree N] [--rows N] [--workers N] [--window N] [--brief]\n".as_slice()
     );
 }

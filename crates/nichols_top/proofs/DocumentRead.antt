@@ -44,7 +44,7 @@ due_document : (words : List (List ℕ)) (document : List ℕ) (command : Comman
 unfolding due
 due_document words document command long is l = ap (λ o. due_under o document) is ∙ ap (λ b. cond b (line_report too_long_text Refused) (command_due command document)) l
 
-not_long : (limit : Option ℕ) (document : List ℕ) → IfSome limit (λ n. length document ≤ n) → is_too_long limit document ≡ false
+pub not_long : (limit : Option ℕ) (document : List ℕ) → IfSome limit (λ n. length document ≤ n) → is_too_long limit document ≡ false
 not_long None document short = refl
 not_long (Some n) document short = grind (arith, nat_tests)
 

@@ -20,25 +20,25 @@ use Rattle.nichols_top.proofs.Taking.{takes_more, breaks_first, breaks_more}
 -- ---- normal forms
 
 -- the forms that are due, by the algebra whose end was reached
-forms_are : (document : DocumentValue) (scope : Scope) (g : GradedValue) (stop : Option Stop) → IsEnded document.braid scope g stop → numbered_pieces (form_due g.braid stop g.last) 1 document.expressions ≡ forms_due document scope
+forms_are : (document : DocumentValue) (scope : Scope) (g : GradedValue) (stop : Option Stop) → IsEnded document.braid scope g stop → numbered_pieces (form_due g.braid document.order stop g.last) 1 document.expressions ≡ forms_due document scope
 forms_are document scope g stop is =
     let last : g.last ≡ length (degrees_in document.braid scope) - 1 = let e = is.counted in omega (arith, e) in
-    ap (λ b. numbered_pieces (form_due b stop g.last) 1 document.expressions) is.braid_is ∙ ap (λ e. numbered_pieces (form_due document.braid e g.last) 1 document.expressions) is.stop_is
-    ∙ ap (λ n. numbered_pieces (form_due document.braid (stop_in document.braid scope) n) 1 document.expressions) last
+    ap (λ b. numbered_pieces (form_due b document.order stop g.last) 1 document.expressions) is.braid_is ∙ ap (λ e. numbered_pieces (form_due document.braid document.order e g.last) 1 document.expressions) is.stop_is
+    ∙ ap (λ n. numbered_pieces (form_due document.braid document.order (stop_in document.braid scope) n) 1 document.expressions) last
 
 -- where the algebra breaks off
-pub reduce_first : (document : DocumentValue) (scope : Scope) {start now : Written} {cause : Break} → BreaksIn (pieces_due document.braid scope) start now cause → Writes (reduce_due document scope) start now (Err cause)
+pub reduce_first : (document : DocumentValue) (scope : Scope) {start now : Written} {cause : Break} → BreaksIn (pieces_due document.braid document.order scope) start now cause → Writes (reduce_due document scope) start now (Err cause)
 unfolding reduce_due
 reduce_first document scope t = breaks_first (forms_due document scope) t
 
 -- where the forms break off
-pub reduce_breaks : (document : DocumentValue) (scope : Scope) (g : GradedValue) (stop : Option Stop) {start mid now : Written} {cause : Break} → IsEnded document.braid scope g stop → Takes (pieces_due document.braid scope) start mid →
-    BreaksIn (numbered_pieces (form_due g.braid stop g.last) 1 document.expressions) mid now cause → Writes (reduce_due document scope) start now (Err cause)
+pub reduce_breaks : (document : DocumentValue) (scope : Scope) (g : GradedValue) (stop : Option Stop) {start mid now : Written} {cause : Break} → IsEnded document.braid scope g stop → Takes (pieces_due document.braid document.order scope) start mid →
+    BreaksIn (numbered_pieces (form_due g.braid document.order stop g.last) 1 document.expressions) mid now cause → Writes (reduce_due document scope) start now (Err cause)
 unfolding reduce_due
 reduce_breaks document scope g stop {start} {mid} {now} {cause} is before t = breaks_more before (subst (λ ps. BreaksIn ps mid now cause) (forms_are document scope g stop is) t)
 
-pub reduce_whole : (document : DocumentValue) (scope : Scope) (g : GradedValue) (stop : Option Stop) {start mid now : Written} (status : Status) → IsEnded document.braid scope g stop → status ≡ status_of stop → Takes (pieces_due document.braid scope) start mid →
-    Takes (numbered_pieces (form_due g.braid stop g.last) 1 document.expressions) mid now → Writes (reduce_due document scope) start now (Ok status)
+pub reduce_whole : (document : DocumentValue) (scope : Scope) (g : GradedValue) (stop : Option Stop) {start mid now : Written} (status : Status) → IsEnded document.braid scope g stop → status ≡ status_of stop → Takes (pieces_due document.braid document.order scope) start mid →
+    Takes (numbered_pieces (form_due g.braid document.order stop g.last) 1 document.expressions) mid now → Writes (reduce_due document scope) start now (Ok status)
 unfolding reduce_due
 reduce_whole document scope g stop {start} {mid} {now} status is s before t = (s ∙ ap status_of is.stop_is, takes_more before (subst (λ ps. Takes ps mid now) (forms_are document scope g stop is) t))
 
@@ -54,13 +54,13 @@ images_written : (document : DocumentValue) (start now : Written) (answer : Resu
 unfolding symmetrize_due
 images_written document start now answer e w = subst (λ o. Writes (unless_long o (images_due document)) start now answer) e w
 
-pub images_first : (document : DocumentValue) {start now : Written} {cause : Break} → None ≡ first_long 1 document.expressions → BreaksIn (piece (symmetrize_piece document.braid) None ∷ []) start now cause → Writes (symmetrize_due document) start now (Err cause)
-images_first document {start} {now} {cause} e t = images_written document start now (Err cause) e (breaks_first (numbered_pieces (image_due document.braid) 1 document.expressions) t)
+pub images_first : (document : DocumentValue) {start now : Written} {cause : Break} → None ≡ first_long 1 document.expressions → BreaksIn (piece (symmetrize_piece document.braid document.order) None ∷ []) start now cause → Writes (symmetrize_due document) start now (Err cause)
+images_first document {start} {now} {cause} e t = images_written document start now (Err cause) e (breaks_first (numbered_pieces (image_due document.braid document.order) 1 document.expressions) t)
 
-pub images_break : (document : DocumentValue) {start mid now : Written} {cause : Break} → None ≡ first_long 1 document.expressions → Takes (piece (symmetrize_piece document.braid) None ∷ []) start mid → BreaksIn (numbered_pieces (image_due document.braid) 1 document.expressions) mid now cause →
+pub images_break : (document : DocumentValue) {start mid now : Written} {cause : Break} → None ≡ first_long 1 document.expressions → Takes (piece (symmetrize_piece document.braid document.order) None ∷ []) start mid → BreaksIn (numbered_pieces (image_due document.braid document.order) 1 document.expressions) mid now cause →
     Writes (symmetrize_due document) start now (Err cause)
 images_break document {start} {mid} {now} {cause} e before t = images_written document start now (Err cause) e (breaks_more before t)
 
-pub images_whole : (document : DocumentValue) {start mid now : Written} → None ≡ first_long 1 document.expressions → Takes (piece (symmetrize_piece document.braid) None ∷ []) start mid → Takes (numbered_pieces (image_due document.braid) 1 document.expressions) mid now →
+pub images_whole : (document : DocumentValue) {start mid now : Written} → None ≡ first_long 1 document.expressions → Takes (piece (symmetrize_piece document.braid document.order) None ∷ []) start mid → Takes (numbered_pieces (image_due document.braid document.order) 1 document.expressions) mid now →
     Writes (symmetrize_due document) start now (Ok Complete)
 images_whole document {start} {mid} {now} e before t = images_written document start now (Ok Complete) e (refl, takes_more before t)

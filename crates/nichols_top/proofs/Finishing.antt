@@ -66,35 +66,35 @@ below_count : (braid : BraidValue) (scope : Scope) (g : GradedValue) → IsAlgeb
 below_count braid scope g is below = subst (λ n. g.last < n) (ap length (same_limits finished_degrees braid scope g is)) below
 
 -- the finished degrees from m on, and the end
-abbrev pub rest_from : BraidValue → Scope → ℕ → List Piece
-rest_from braid scope m = map (degree_due braid scope.brief) (range_with_len m (count braid scope - m)) ++ end_due braid (stop_in braid scope) (degrees_in braid scope) ∷ []
+abbrev pub rest_from : BraidValue → List ℕ → Scope → ℕ → List Piece
+rest_from braid list scope m = map (degree_due braid list scope.brief) (range_with_len m (count braid scope - m)) ++ end_due braid (stop_in braid scope) (degrees_in braid scope) ∷ []
 
-pub pieces_are : (braid : BraidValue) (scope : Scope) → pieces_due braid scope ≡ (header_due braid scope ∷ []) ++ rest_from braid scope 0
+pub pieces_are : (braid : BraidValue) (list : List ℕ) (scope : Scope) → pieces_due braid list scope ≡ (header_due braid list scope ∷ []) ++ rest_from braid list scope 0
 unfolding pieces_due
-pieces_are braid scope =
+pieces_are braid list scope =
     let all : count braid scope ≡ count braid scope - 0 = omega arith in
     let degrees : degrees_in braid scope ≡ range_with_len 0 (count braid scope - 0) = degrees_are braid scope ∙ ap (range_with_len 0) all in
-    ap (λ ms. header_due braid scope ∷ (map (degree_due braid scope.brief) ms ++ end_due braid (stop_in braid scope) (degrees_in braid scope) ∷ [])) degrees
+    ap (λ ms. header_due braid list scope ∷ (map (degree_due braid list scope.brief) ms ++ end_due braid (stop_in braid scope) (degrees_in braid scope) ∷ [])) degrees
 
-pub rest_parts : (braid : BraidValue) (scope : Scope) (from last : ℕ) → from ≤ suc last → last < count braid scope →
-    rest_from braid scope from ≡ map (degree_due braid scope.brief) (range_with_len from (suc last - from)) ++ rest_from braid scope (suc last)
-rest_parts braid scope from last order below =
+pub rest_parts : (braid : BraidValue) (list : List ℕ) (scope : Scope) (from last : ℕ) → from ≤ suc last → last < count braid scope →
+    rest_from braid list scope from ≡ map (degree_due braid list scope.brief) (range_with_len from (suc last - from)) ++ rest_from braid list scope (suc last)
+rest_parts braid list scope from last order below =
     let split : count braid scope - from ≡ (suc last - from) + (count braid scope - suc last) = omega arith in
     let next : from + (suc last - from) ≡ suc last = omega arith in
     let end : List Piece = end_due braid (stop_in braid scope) (degrees_in braid scope) ∷ [] in
-    let due : ℕ → Piece = degree_due braid scope.brief in
+    let due : ℕ → Piece = degree_due braid list scope.brief in
     ap (λ ms. map due ms ++ end) (range_parts from (suc last - from) (count braid scope - suc last) (count braid scope - from) split ∙ ap (λ b. range_with_len from (suc last - from) ++ range_with_len b (count braid scope - suc last)) next)
     ∙ ap (λ ps. ps ++ end) (map-append due (range_with_len from (suc last - from)) (range_with_len (suc last) (count braid scope - suc last)))
     ∙ append_assoc (map due (range_with_len from (suc last - from))) (map due (range_with_len (suc last) (count braid scope - suc last))) end
 
-pub some_rest : (braid : BraidValue) (scope : Scope) (m : ℕ) → 0 < length (rest_from braid scope m)
-some_rest braid scope m = omega (arith, length-append (map (degree_due braid scope.brief) (range_with_len m (count braid scope - m))) (end_due braid (stop_in braid scope) (degrees_in braid scope) ∷ []))
+pub some_rest : (braid : BraidValue) (list : List ℕ) (scope : Scope) (m : ℕ) → 0 < length (rest_from braid list scope m)
+some_rest braid list scope m = omega (arith, length-append (map (degree_due braid list scope.brief) (range_with_len m (count braid scope - m))) (end_due braid (stop_in braid scope) (degrees_in braid scope) ∷ []))
 
 -- behind the last finished degree stands the end alone
-rest_is_end : (braid : BraidValue) (scope : Scope) (last : ℕ) → count braid scope ≡ suc last → rest_from braid scope (suc last) ≡ end_due braid (stop_in braid scope) (range_with_len 0 (suc last)) ∷ []
-rest_is_end braid scope last e =
+rest_is_end : (braid : BraidValue) (list : List ℕ) (scope : Scope) (last : ℕ) → count braid scope ≡ suc last → rest_from braid list scope (suc last) ≡ end_due braid (stop_in braid scope) (range_with_len 0 (suc last)) ∷ []
+rest_is_end braid list scope last e =
     let none : count braid scope - suc last ≡ 0 = omega arith in
-    ap (λ n. map (degree_due braid scope.brief) (range_with_len (suc last) n) ++ end_due braid (stop_in braid scope) (degrees_in braid scope) ∷ []) none
+    ap (λ n. map (degree_due braid list scope.brief) (range_with_len (suc last) n) ++ end_due braid (stop_in braid scope) (degrees_in braid scope) ∷ []) none
     ∙ ap (λ ms. end_due braid (stop_in braid scope) ms ∷ []) (degrees_are braid scope ∙ ap (range_with_len 0) e)
 
 -- ---- the end
@@ -115,8 +115,8 @@ ended_at braid scope g stop is reached = at (nat_eq (count braid scope) (suc g.l
     at false t e = cc
 
 -- an end that is told and no want of memory is the one that was reached
-pub end_told : (g : GradedValue) (advance : Advance) (end : End) (stop : Option Stop) → TellsEnd g advance.finished advance.end → advance.end ≡ Some end → end ≡ end_by stop → HasEnd g stop
-end_told g advance end stop (inl starved) is e = absurd (never stop (let c : Some ends.Starved ≡ Some (end_by stop) = sym starved.0 ∙ is ∙ ap Some e in cc))
+pub end_told : (g : GradedValue) (advance : Advance) (end : End) (stop : Option Stop) → TellsEnd g advance.end → advance.end ≡ Some end → end ≡ end_by stop → HasEnd g stop
+end_told g advance end stop (inl starved) is e = absurd (never stop (let c : Some ends.Starved ≡ Some (end_by stop) = sym starved ∙ is ∙ ap Some e in cc))
   where
     never : (s : Option Stop) → ends.Starved ≡ end_by s → ⊥
     never None h = let c : ends.Starved ≡ ends.Closed = h in cc
@@ -142,54 +142,54 @@ degrees_more f from m order =
 -- ---- the pieces of a report as they are put
 
 -- the degrees up to the last finished one
-pub degrees_put : (braid : BraidValue) (scope : Scope) (from : ℕ) (g : GradedValue) {start mid now : Written} → IsAlgebra braid scope g → from ≤ suc g.last → g.last < length (finished_degrees g.braid g.limit g.rows) →
-    HasTaken (pieces_due braid scope) (rest_from braid scope from) start mid → Takes (map (degree_due g.braid scope.brief) (range_with_len from (suc g.last - from))) mid now →
-    HasTaken (pieces_due braid scope) (rest_from braid scope (suc g.last)) start now
-degrees_put braid scope from g {start} {mid} {now} is order below h t =
-    taken_more (rest_from braid scope (suc g.last)) (subst (λ ps. HasTaken (pieces_due braid scope) ps start mid) (rest_parts braid scope from g.last order (below_count braid scope g is below)) h)
-    (subst (λ x. Takes (map (degree_due x scope.brief) (range_with_len from (suc g.last - from))) mid now) is.braid_is t)
+pub degrees_put : (braid : BraidValue) (list : List ℕ) (scope : Scope) (from : ℕ) (g : GradedValue) {start mid now : Written} → IsAlgebra braid scope g → from ≤ suc g.last → g.last < length (finished_degrees g.braid g.limit g.rows) →
+    HasTaken (pieces_due braid list scope) (rest_from braid list scope from) start mid → Takes (map (degree_due g.braid list scope.brief) (range_with_len from (suc g.last - from))) mid now →
+    HasTaken (pieces_due braid list scope) (rest_from braid list scope (suc g.last)) start now
+degrees_put braid list scope from g {start} {mid} {now} is order below h t =
+    taken_more (rest_from braid list scope (suc g.last)) (subst (λ ps. HasTaken (pieces_due braid list scope) ps start mid) (rest_parts braid list scope from g.last order (below_count braid scope g is below)) h)
+    (subst (λ x. Takes (map (degree_due x list scope.brief) (range_with_len from (suc g.last - from))) mid now) is.braid_is t)
 
-pub degrees_break : (braid : BraidValue) (scope : Scope) (from : ℕ) (g : GradedValue) {start mid now : Written} {cause : Break} → IsAlgebra braid scope g → from ≤ suc g.last → g.last < length (finished_degrees g.braid g.limit g.rows) →
-    HasTaken (pieces_due braid scope) (rest_from braid scope from) start mid → BreaksIn (map (degree_due g.braid scope.brief) (range_with_len from (suc g.last - from))) mid now cause →
-    BreaksIn (pieces_due braid scope) start now cause
-degrees_break braid scope from g {start} {mid} {now} {cause} is order below h t =
-    taken_broken (rest_from braid scope (suc g.last)) (subst (λ ps. HasTaken (pieces_due braid scope) ps start mid) (rest_parts braid scope from g.last order (below_count braid scope g is below)) h)
-    (subst (λ x. BreaksIn (map (degree_due x scope.brief) (range_with_len from (suc g.last - from))) mid now cause) is.braid_is t)
+pub degrees_break : (braid : BraidValue) (list : List ℕ) (scope : Scope) (from : ℕ) (g : GradedValue) {start mid now : Written} {cause : Break} → IsAlgebra braid scope g → from ≤ suc g.last → g.last < length (finished_degrees g.braid g.limit g.rows) →
+    HasTaken (pieces_due braid list scope) (rest_from braid list scope from) start mid → BreaksIn (map (degree_due g.braid list scope.brief) (range_with_len from (suc g.last - from))) mid now cause →
+    BreaksIn (pieces_due braid list scope) start now cause
+degrees_break braid list scope from g {start} {mid} {now} {cause} is order below h t =
+    taken_broken (rest_from braid list scope (suc g.last)) (subst (λ ps. HasTaken (pieces_due braid list scope) ps start mid) (rest_parts braid list scope from g.last order (below_count braid scope g is below)) h)
+    (subst (λ x. BreaksIn (map (degree_due x list scope.brief) (range_with_len from (suc g.last - from))) mid now cause) is.braid_is t)
 
 -- the same pieces are left
-pub taken_at : (braid : BraidValue) (scope : Scope) (n : ℕ) {m : ℕ} {start now : Written} → n ≡ m → HasTaken (pieces_due braid scope) (rest_from braid scope m) start now → HasTaken (pieces_due braid scope) (rest_from braid scope n) start now
-taken_at braid scope n {m} {start} {now} e h = subst (λ k. HasTaken (pieces_due braid scope) (rest_from braid scope k) start now) (sym e) h
+pub taken_at : (braid : BraidValue) (list : List ℕ) (scope : Scope) (n : ℕ) {m : ℕ} {start now : Written} → n ≡ m → HasTaken (pieces_due braid list scope) (rest_from braid list scope m) start now → HasTaken (pieces_due braid list scope) (rest_from braid list scope n) start now
+taken_at braid list scope n {m} {start} {now} e h = subst (λ k. HasTaken (pieces_due braid list scope) (rest_from braid list scope k) start now) (sym e) h
 
 -- fewer degrees are left
 pub fewer : (braid : BraidValue) (scope : Scope) (g : GradedValue) (last : ℕ) → IsAlgebra braid scope g → g.last < length (finished_degrees g.braid g.limit g.rows) → last < g.last → count braid scope - g.last < count braid scope - last
 fewer braid scope g last is below more = let few = below_count braid scope g is below in omega (arith, few)
 
 -- the header
-pub header_put : (braid : BraidValue) (scope : Scope) {start now : Written} → Takes (header_due braid scope ∷ []) start now → HasTaken (pieces_due braid scope) (rest_from braid scope 0) start now
-header_put braid scope t = taken_more (rest_from braid scope 0) (taken_nothing (pieces_are braid scope)) t
+pub header_put : (braid : BraidValue) (list : List ℕ) (scope : Scope) {start now : Written} → Takes (header_due braid list scope ∷ []) start now → HasTaken (pieces_due braid list scope) (rest_from braid list scope 0) start now
+header_put braid list scope t = taken_more (rest_from braid list scope 0) (taken_nothing (pieces_are braid list scope)) t
 
-pub header_breaks : (braid : BraidValue) (scope : Scope) {start now : Written} {cause : Break} → BreaksIn (header_due braid scope ∷ []) start now cause → BreaksIn (pieces_due braid scope) start now cause
-header_breaks braid scope t = taken_broken (rest_from braid scope 0) (taken_nothing (pieces_are braid scope)) t
+pub header_breaks : (braid : BraidValue) (list : List ℕ) (scope : Scope) {start now : Written} {cause : Break} → BreaksIn (header_due braid list scope ∷ []) start now cause → BreaksIn (pieces_due braid list scope) start now cause
+header_breaks braid list scope t = taken_broken (rest_from braid list scope 0) (taken_nothing (pieces_are braid list scope)) t
 
 -- where there was no memory between two pieces
-pub next_breaks : (braid : BraidValue) (scope : Scope) (m : ℕ) {start now : Written} → HasTaken (pieces_due braid scope) (rest_from braid scope m) start now → BreaksIn (pieces_due braid scope) start now Memory
-next_breaks braid scope m h = taken_no_memory h (some_rest braid scope m)
+pub next_breaks : (braid : BraidValue) (list : List ℕ) (scope : Scope) (m : ℕ) {start now : Written} → HasTaken (pieces_due braid list scope) (rest_from braid list scope m) start now → BreaksIn (pieces_due braid list scope) start now Memory
+next_breaks braid list scope m h = taken_no_memory h (some_rest braid list scope m)
 
 -- the end
-end_left : (braid : BraidValue) (scope : Scope) (g : GradedValue) (stop : Option Stop) {start mid : Written} → IsEnded braid scope g stop → HasTaken (pieces_due braid scope) (rest_from braid scope (suc g.last)) start mid →
-    HasTaken (pieces_due braid scope) ((end_due g.braid stop (range_with_len 0 (suc g.last)) ∷ []) ++ []) start mid
-end_left braid scope g stop {start} {mid} is h =
+end_left : (braid : BraidValue) (list : List ℕ) (scope : Scope) (g : GradedValue) (stop : Option Stop) {start mid : Written} → IsEnded braid scope g stop → HasTaken (pieces_due braid list scope) (rest_from braid list scope (suc g.last)) start mid →
+    HasTaken (pieces_due braid list scope) ((end_due g.braid stop (range_with_len 0 (suc g.last)) ∷ []) ++ []) start mid
+end_left braid list scope g stop {start} {mid} is h =
     let degrees : List ℕ = range_with_len 0 (suc g.last) in
     let piece_is : end_due g.braid stop degrees ≡ end_due braid (stop_in braid scope) degrees = ap (λ b. end_due b stop degrees) is.braid_is ∙ ap (λ e. end_due braid e degrees) is.stop_is in
-    subst (λ ps. HasTaken (pieces_due braid scope) ps start mid) (rest_is_end braid scope g.last is.counted ∙ ap (λ p. p ∷ []) (sym piece_is)) h
+    subst (λ ps. HasTaken (pieces_due braid list scope) ps start mid) (rest_is_end braid list scope g.last is.counted ∙ ap (λ p. p ∷ []) (sym piece_is)) h
 
-pub end_put : (braid : BraidValue) (scope : Scope) (g : GradedValue) (stop : Option Stop) {start mid now : Written} → IsEnded braid scope g stop → HasTaken (pieces_due braid scope) (rest_from braid scope (suc g.last)) start mid →
-    Takes (end_due g.braid stop (range_with_len 0 (suc g.last)) ∷ []) mid now → Takes (pieces_due braid scope) start now
-end_put braid scope g stop is h t = taken_whole (taken_more [] (end_left braid scope g stop is h) t)
+pub end_put : (braid : BraidValue) (list : List ℕ) (scope : Scope) (g : GradedValue) (stop : Option Stop) {start mid now : Written} → IsEnded braid scope g stop → HasTaken (pieces_due braid list scope) (rest_from braid list scope (suc g.last)) start mid →
+    Takes (end_due g.braid stop (range_with_len 0 (suc g.last)) ∷ []) mid now → Takes (pieces_due braid list scope) start now
+end_put braid list scope g stop is h t = taken_whole (taken_more [] (end_left braid list scope g stop is h) t)
 
-pub end_breaks : (braid : BraidValue) (scope : Scope) (g : GradedValue) (stop : Option Stop) {start mid now : Written} {cause : Break} → IsEnded braid scope g stop → HasTaken (pieces_due braid scope) (rest_from braid scope (suc g.last)) start mid →
-    BreaksIn (end_due g.braid stop (range_with_len 0 (suc g.last)) ∷ []) mid now cause → BreaksIn (pieces_due braid scope) start now cause
-end_breaks braid scope g stop is h t = taken_broken [] (end_left braid scope g stop is h) t
+pub end_breaks : (braid : BraidValue) (list : List ℕ) (scope : Scope) (g : GradedValue) (stop : Option Stop) {start mid now : Written} {cause : Break} → IsEnded braid scope g stop → HasTaken (pieces_due braid list scope) (rest_from braid list scope (suc g.last)) start mid →
+    BreaksIn (end_due g.braid stop (range_with_len 0 (suc g.last)) ∷ []) mid now cause → BreaksIn (pieces_due braid list scope) start now cause
+end_breaks braid list scope g stop is h t = taken_broken [] (end_left braid list scope g stop is h) t
 
 -- ---- the end piece
 

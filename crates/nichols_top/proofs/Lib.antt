@@ -1,5 +1,6 @@
 pub mod Taking
 pub mod Finishing
+mod CountedBlocks
 pub mod Statuses
 pub mod Conclusions
 pub mod DocumentRead
@@ -10,4 +11,9 @@ pub mod Forms
 pub mod Images
 pub mod LongExpressions
 pub mod Expressions
+pub mod Covers
+pub mod Each
+pub mod Tables
 mod WorkedTexts
+mod WorkedLimits
+mod WorkedReports

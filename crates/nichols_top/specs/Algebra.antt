@@ -1,5 +1,5 @@
 -- The report of an algebra, by the quantum symmetrizers of its braid.
-use Rattle.std.specs.Prelude.{ℕ, ◌-◌, Bool, List, [], ◌∷◌, ◌++◌, map, length, sum, Option, None, Some}
+use Rattle.std.specs.Prelude.{ℕ, ◌-◌, Bool, true, List, [], ◌∷◌, ◌++◌, map, length, sum, Option, None, Some}
 use Rattle.nichols_braid.specs.Braid.{BraidValue}
 use Rattle.nichols_braid.specs.Kernel.{is_in_kernel}
 use Rattle.nichols_braid.specs.Least.{basis, relations}
@@ -23,6 +23,10 @@ Scope = record { degree_limit : ℕ; rows_limit : ℕ; brief : Bool }
 abbrev pub scope_of : Options → Scope
 scope_of options = record { degree_limit = options.degree_limit; rows_limit = options.rows_limit; brief = options.brief }
 
+-- the same scope, in brief
+abbrev pub in_brief : Scope → Scope
+in_brief scope = record { degree_limit = scope.degree_limit; rows_limit = scope.rows_limit; brief = true }
+
 -- the finished degrees
 abbrev pub degrees_in : BraidValue → Scope → List ℕ
 degrees_in braid scope = finished_degrees braid scope.degree_limit scope.rows_limit
@@ -32,12 +36,12 @@ abbrev pub stop_in : BraidValue → Scope → Option Stop
 stop_in braid scope = stop_of is_in_kernel braid (stops_at braid scope.degree_limit scope.rows_limit)
 
 -- the header
-unfoldable pub header_due : BraidValue → Scope → Piece
-header_due braid scope = piece (header_piece braid scope.degree_limit scope.rows_limit) None
+unfoldable pub header_due : BraidValue → List ℕ → Scope → Piece
+header_due braid order scope = piece (header_piece braid order scope.degree_limit scope.rows_limit) None
 
--- a finished degree, with its least words and its relations unless the report is brief
-unfoldable pub degree_due : BraidValue → Bool → ℕ → Piece
-degree_due braid brief m = piece (degree_piece m (basis is_in_kernel braid m) (relations is_in_kernel braid m) brief) (Some m)
+-- a finished degree, with its least words and its relations unless the report is brief; ranks are printed as letters of the order
+unfoldable pub degree_due : BraidValue → List ℕ → Bool → ℕ → Piece
+degree_due braid order brief m = piece (degree_piece braid.field order m (basis is_in_kernel braid m) (relations is_in_kernel braid m) brief) (Some m)
 
 -- the dimensions of some degrees
 abbrev pub dimensions_of : BraidValue → List ℕ → List ℕ
@@ -66,9 +70,9 @@ end_due braid e degrees =
     piece (end_piece (end_line_of e (length degrees - 1) (dimensions_of braid degrees)) (dimensions_of braid degrees) (factors_at e (dimensions_of braid degrees))) None
 
 -- the header, the finished degrees, and the end
-unfoldable pub pieces_due : BraidValue → Scope → List Piece
-pieces_due braid scope = header_due braid scope ∷ (map (degree_due braid scope.brief) (degrees_in braid scope) ++ end_due braid (stop_in braid scope) (degrees_in braid scope) ∷ [])
+unfoldable pub pieces_due : BraidValue → List ℕ → Scope → List Piece
+pieces_due braid order scope = header_due braid order scope ∷ (map (degree_due braid order scope.brief) (degrees_in braid scope) ++ end_due braid (stop_in braid scope) (degrees_in braid scope) ∷ [])
 
--- the report of a braid's algebra
-unfoldable pub algebra_due : BraidValue → Scope → Report
-algebra_due braid scope = record { pieces = pieces_due braid scope; status = status_of (stop_in braid scope) }
+-- the report of the algebra of a braid on ranks, in the letters of an order
+unfoldable pub algebra_due : BraidValue → List ℕ → Scope → Report
+algebra_due braid order scope = record { pieces = pieces_due braid order scope; status = status_of (stop_in braid scope) }

@@ -1,20 +1,23 @@
 -- The report that is due for the words of a command line and a document.
-use Rattle.std.specs.Prelude.{ℕ, Bool, true, false, List, length, Option, None, Some, Result, Ok, Err, if◌then◌else◌, nat_lt}
+use Rattle.std.specs.Prelude.{ℕ, Bool, false, List, length, Option, None, Some, Result, Ok, Err, if◌then◌else◌, nat_lt}
+use Rattle.nichols_tensor.specs.Words.{up_to}
 use Rattle.nichols_braid.specs.Points.{points_braid}
 use Rattle.nichols_command.specs.Command.{command_of}
 use Rattle.nichols_command.specs.declared.command.Command.{Command}
 use Rattle.nichols_command.specs.declared.command.Command.TheVariants.{OnDocument, Points}
 use Rattle.nichols_command.specs.declared.command.Task.{Task}
-use Rattle.nichols_command.specs.declared.command.Task.TheVariants.{Algebra, Reduce, Symmetrize}
+use Rattle.nichols_command.specs.declared.command.Task.TheVariants.{Algebra, Reduce, Symmetrize, Table, Cover}
 use Rattle.nichols_input.specs.Document.{DocumentValue, document_in}
 use Rattle.nichols_input.specs.Refusal.{Refusal}
 use Rattle.nichols_text.specs.Lines.{usage_text}
 use Rattle.nichols_text.specs.Refusals.{document_line, too_long_text}
-use Rattle.nichols_top.specs.Algebra.{Scope, scope_of, algebra_due}
+use Rattle.nichols_top.specs.Algebra.{scope_of, in_brief, algebra_due}
+use Rattle.nichols_top.specs.Cover.{cover_due}
 use Rattle.nichols_top.specs.Input.{document_limit}
 use Rattle.nichols_top.specs.Reduce.{reduce_due}
 use Rattle.nichols_top.specs.Report.{Report, line_report}
 use Rattle.nichols_top.specs.Symmetrize.{symmetrize_due}
+use Rattle.nichols_top.specs.Table.{table_due}
 use Rattle.nichols_top.specs.declared.status.Status.TheVariants.{Usage, Refused}
 
 -- a report of a document, or the line of its refusal
@@ -24,18 +27,16 @@ unless_refused report (Err refusal) = line_report (document_line refusal) Refuse
 
 -- the report of a document that isn't refused
 unfoldable pub task_due : Task → DocumentValue → Report
-task_due (Algebra options) document = algebra_due document.braid (scope_of options)
+task_due (Algebra options) document = algebra_due document.braid document.order (scope_of options)
 task_due (Reduce options) document = reduce_due document (scope_of options)
 task_due Symmetrize document = symmetrize_due document
-
--- the same scope, in brief
-abbrev pub in_brief : Scope → Scope
-in_brief scope = record { degree_limit = scope.degree_limit; rows_limit = scope.rows_limit; brief = true }
+task_due (Table options) document = table_due document.braid document.order (scope_of options)
+task_due (Cover options) document = cover_due document.braid document.order (scope_of options)
 
 -- the report of a command for its document
 unfoldable pub command_due : Command → List ℕ → Report
 command_due (OnDocument task) document = unless_refused (task_due task) (document_in document)
-command_due (Points k options) document = algebra_due (points_braid k) (in_brief (scope_of options))
+command_due (Points k options) document = algebra_due (points_braid k) (up_to (points_braid k).letters) (in_brief (scope_of options))
 
 -- whether a document is longer than a limit, where there is one
 abbrev pub is_too_long : Option ℕ → List ℕ → Bool

@@ -17,16 +17,16 @@ is_beyond_stop None last f = false
 is_beyond_stop (Some s) last f = nat_lt last (longest f)
 
 -- the normal form of an expression, or the last finished degree, with the number of the expression
-unfoldable pub form_due : BraidValue → Option Stop → ℕ → ℕ → Combination → Piece
-form_due braid e last k f = piece (if is_beyond_stop e last f then beyond_line k last else form_line k (normal_form_by_parts is_in_kernel braid f)) None
+unfoldable pub form_due : BraidValue → List ℕ → Option Stop → ℕ → ℕ → Combination → Piece
+form_due braid order e last k f = piece (if is_beyond_stop e last f then beyond_line k last else form_line braid.field order k (normal_form_by_parts is_in_kernel braid f)) None
 
 -- the normal forms of a document's expressions
 abbrev pub forms_due : DocumentValue → Scope → List Piece
-forms_due document scope = numbered_pieces (form_due document.braid (stop_in document.braid scope) (length (degrees_in document.braid scope) - 1)) 1 document.expressions
+forms_due document scope = numbered_pieces (form_due document.braid document.order (stop_in document.braid scope) (length (degrees_in document.braid scope) - 1)) 1 document.expressions
 
 -- the report of an algebra, with the normal forms behind it
 unfoldable pub reduce_due : DocumentValue → Scope → Report
 reduce_due document scope = record {
-  pieces = pieces_due document.braid scope ++ forms_due document scope;
+  pieces = pieces_due document.braid document.order scope ++ forms_due document scope;
   status = status_of (stop_in document.braid scope);
 }

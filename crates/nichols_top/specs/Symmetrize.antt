@@ -23,13 +23,13 @@ first_long k [] = None
 first_long k (f ∷ fs) = if is_long f then Some k else first_long (suc k) fs
 
 -- the image of an expression, with the number of the expression
-unfoldable pub image_due : BraidValue → ℕ → Combination → Piece
-image_due braid k f = piece (image_line k (in_order braid.field (symmetrizer_image braid f))) None
+unfoldable pub image_due : BraidValue → List ℕ → ℕ → Combination → Piece
+image_due braid order k f = piece (image_line braid.field order k (in_order braid.field (symmetrizer_image braid f))) None
 
 -- the header and the images
 abbrev pub images_due : DocumentValue → Report
 images_due document = record {
-  pieces = piece (symmetrize_piece document.braid) None ∷ numbered_pieces (image_due document.braid) 1 document.expressions;
+  pieces = piece (symmetrize_piece document.braid document.order) None ∷ numbered_pieces (image_due document.braid document.order) 1 document.expressions;
   status = Complete;
 }
 

@@ -5,16 +5,19 @@ ghost use Rattle.std.specs.List.{range_with_len};
 ghost use Rattle.nichols_braid.specs.Kernel.{is_in_kernel};
 ghost use Rattle.nichols_braid.specs.Least.{basis, relations};
 ghost use Rattle.nichols_command.specs.Command.{AreInRange};
+ghost use Rattle.nichols_crew.specs.Counting.{HasCounted, block_count};
 ghost use Rattle.nichols_graded.specs.Ends.{end_by, finished_degrees};
 ghost use Rattle.nichols_text.specs.Pieces.{degree_piece};
 ghost use Rattle.nichols_top.specs.Algebra.{scope_of, header_due, degree_due, dimensions_of, factors_at, end_line_of, status_of, end_due, pieces_due, algebra_due};
+ghost use Rattle.nichols_top.specs.Counted.{algebra_blocks};
 ghost use Rattle.nichols_top.specs.Ended.{HasEnd, IsEnded};
 ghost use Rattle.nichols_top.specs.Written.{IsStopped, writer_seen, Puts, Writes};
 
 use crate::status::Status;
 use crate::writer::{Break, Writer};
-use nichols_braid::Braid;
+use nichols_braid::{Braid, Order};
 use nichols_command::Options;
+use nichols_crew::Gate;
 use nichols_graded::{End, Graded, Stop};
 use nichols_io::Sink;
 use nichols_text::{EndLine, brief_degree_text, degree_text, end_text, header_text};
@@ -29,43 +32,57 @@ pub(crate) struct Ended {
 }
 
 /// Writes the report of a braid's algebra.
-pub(crate) fn put_algebra<R: Threads + Sync, K: Sink>(
+pub(crate) fn put_algebra<R: Threads + Sync, K: Sink, G: Gate + Sync>(
     rt: &R,
     alloc: Global,
     braid: Braid,
+    order: &Order,
     options: Options,
     out: &mut Writer<'_, K>,
+    gate: &mut G,
 ) -> Result<Status, Break>
-    requires { AreInRange options }
+    requires options { AreInRange options }
+    requires letters { length order.now ≡ braid.letters }
     ensures same_sink { out.new.sink.ghost_name ≡ out.old.sink.ghost_name }
-    ensures report { Writes (algebra_due braid (scope_of options)) (writer_seen K.taken K.faults out.old) (writer_seen K.taken K.faults out.new) result }
+    ensures report { Writes (algebra_due braid order.now (scope_of options)) (writer_seen K.taken K.faults out.old) (writer_seen K.taken K.faults out.new) result }
+    ensures counted { IfOk result (λ _. HasCounted (algebra_blocks braid (scope_of options)) (G.count gate.old) (G.count gate.new)) }
     ensures stopped { result ≡ Err Break.Fault → IsStopped K.taken K.faults out.old.sink.now out.new.sink.now }
 {
-    let ended = put_pieces(rt, alloc, braid, options, out)?;
+    let ended = put_pieces(rt, alloc, braid, order, options, out, gate)?;
     Ok(status_of(ended.stop))
 }
 
 /// Writes the pieces of an algebra's report, the header, each degree once it is done, and the end; answers the algebra.
-pub(crate) fn put_pieces<R: Threads + Sync, K: Sink>(
+pub(crate) fn put_pieces<R: Threads + Sync, K: Sink, G: Gate + Sync>(
     rt: &R,
     alloc: Global,
     braid: Braid,
+    order: &Order,
     options: Options,
     out: &mut Writer<'_, K>,
+    gate: &mut G,
 ) -> Result<Ended, Break>
-    requires { AreInRange options }
+    requires options { AreInRange options }
+    requires letters { length order.now ≡ braid.letters }
     ensures same_sink { out.new.sink.ghost_name ≡ out.old.sink.ghost_name }
-    ensures pieces { Puts (pieces_due braid (scope_of options)) (writer_seen K.taken K.faults out.old) (writer_seen K.taken K.faults out.new) result }
+    ensures pieces { Puts (pieces_due braid order.now (scope_of options)) (writer_seen K.taken K.faults out.old) (writer_seen K.taken K.faults out.new) result }
     ensures ended { IfOk result (λ e. IsEnded braid (scope_of options) e.graded e.stop) }
+    ensures counted { IfOk result (λ e. HasCounted (block_count braid 1 e.graded.last) (G.count gate.old) (G.count gate.new)) }
     ensures stopped { result ≡ Err Break.Fault → IsStopped K.taken K.faults out.old.sink.now out.new.sink.now }
 {
-    put_header(alloc, &braid, options, out)?;
-    let mut graded = Graded::start(alloc, braid, options.degree_limit, options.rows_limit)?;
-    put_degrees(alloc, &graded, 0, options.brief, out)?;
+    put_header(alloc, &braid, order, options, out)?;
+    let mut graded = Graded::start(
+        alloc,
+        braid,
+        options.degree_limit,
+        options.rows_limit,
+        options.window,
+    )?;
+    put_degrees(alloc, &graded, order, 0, options.brief, out)?;
     'degrees: loop {
         let next = graded.levels().last() + 1;
-        let advance = graded.advance(rt, alloc, options.workers)?;
-        put_degrees(alloc, &graded, next, options.brief, out)?;
+        let advance = graded.advance(rt, alloc, options.workers, gate)?;
+        put_degrees(alloc, &graded, order, next, options.brief, out)?;
         if let Some(end) = advance.end {
             let stop = stop_of(end)?;
             put_end(alloc, &graded, stop, out)?;
@@ -89,14 +106,22 @@ fn stop_of(end: End) -> Result<Option<Stop>, AllocError>
 fn put_header<K: Sink>(
     alloc: Global,
     braid: &Braid,
+    order: &Order,
     options: Options,
     out: &mut Writer<'_, K>,
 ) -> Result<(), Break>
+    requires { length order.now ≡ braid.now.letters }
     ensures same_sink { out.new.sink.ghost_name ≡ out.old.sink.ghost_name }
-    ensures piece { Puts (header_due braid.now (scope_of options) ∷ []) (writer_seen K.taken K.faults out.old) (writer_seen K.taken K.faults out.new) result }
+    ensures piece { Puts (header_due braid.now order.now (scope_of options) ∷ []) (writer_seen K.taken K.faults out.old) (writer_seen K.taken K.faults out.new) result }
     ensures stopped { result ≡ Err Break.Fault → IsStopped K.taken K.faults out.old.sink.now out.new.sink.now }
 {
-    let text = header_text(alloc, braid, options.degree_limit, options.rows_limit)?;
+    let text = header_text(
+        alloc,
+        braid,
+        order,
+        options.degree_limit,
+        options.rows_limit,
+    )?;
     out.put(text.as_slice(), None)
 }
 
@@ -104,6 +129,7 @@ fn put_header<K: Sink>(
 fn put_degrees<K: Sink>(
     alloc: Global,
     graded: &Graded,
+    order: &Order,
     from: u32,
     brief: bool,
     out: &mut Writer<'_, K>,
@@ -111,44 +137,60 @@ fn put_degrees<K: Sink>(
     requires { from ≤ suc graded.now.last }
     ensures same_sink { out.new.sink.ghost_name ≡ out.old.sink.ghost_name }
     ensures finished { graded.now.last < length (finished_degrees graded.now.braid graded.now.limit graded.now.rows) }
-    ensures pieces { Puts (map (degree_due graded.now.braid brief) (range_with_len from (suc graded.now.last - from)))
+    ensures pieces { Puts (map (degree_due graded.now.braid order.now brief) (range_with_len from (suc graded.now.last - from)))
         (writer_seen K.taken K.faults out.old) (writer_seen K.taken K.faults out.new) result }
     ensures stopped { result ≡ Err Break.Fault → IsStopped K.taken K.faults out.old.sink.now out.new.sink.now }
 {
     let last = graded.levels().last();
     for m in from..last + 1 {
-        put_degree(alloc, graded, m, brief, out)?;
+        put_degree(alloc, graded, order, m, brief, out)?;
     }
     Ok(())
 }
 
 /// The text of a finished degree; in brief its least words and relations aren't listed.
-fn finished_text(alloc: Global, graded: &Graded, m: u32, brief: bool) -> Result<Vec<u8>, AllocError>
+fn finished_text(
+    alloc: Global,
+    graded: &Graded,
+    order: &Order,
+    m: u32,
+    brief: bool,
+) -> Result<Vec<u8>, AllocError>
     requires { m ≤ graded.now.last }
-    ensures { IfOk result (λ text. text.items ≡ degree_piece m (basis is_in_kernel graded.now.braid m) (relations is_in_kernel graded.now.braid m) brief) }
+    ensures { IfOk result (λ text. text.items ≡ degree_piece graded.now.braid.field order.now m (basis is_in_kernel graded.now.braid m) (relations is_in_kernel graded.now.braid m) brief) }
 {
     if brief {
         return brief_degree_text(alloc, m, graded.dimension(m));
     }
     let basis = graded.basis(alloc, m)?;
     let relations = graded.relations(alloc, m)?;
-    degree_text(alloc, m, basis.as_slice(), relations.as_slice(), brief)
+    let field = graded.levels().braid().field();
+    degree_text(
+        alloc,
+        field,
+        order,
+        m,
+        basis.as_slice(),
+        relations.as_slice(),
+        brief,
+    )
 }
 
 /// Writes the piece of a finished degree.
 fn put_degree<K: Sink>(
     alloc: Global,
     graded: &Graded,
+    order: &Order,
     m: u32,
     brief: bool,
     out: &mut Writer<'_, K>,
 ) -> Result<(), Break>
     requires { m ≤ graded.now.last }
     ensures same_sink { out.new.sink.ghost_name ≡ out.old.sink.ghost_name }
-    ensures piece { Puts (degree_due graded.now.braid brief m ∷ []) (writer_seen K.taken K.faults out.old) (writer_seen K.taken K.faults out.new) result }
+    ensures piece { Puts (degree_due graded.now.braid order.now brief m ∷ []) (writer_seen K.taken K.faults out.old) (writer_seen K.taken K.faults out.new) result }
     ensures stopped { result ≡ Err Break.Fault → IsStopped K.taken K.faults out.old.sink.now out.new.sink.now }
 {
-    let text = finished_text(alloc, graded, m, brief)?;
+    let text = finished_text(alloc, graded, order, m, brief)?;
     out.put(text.as_slice(), Some(m))
 }
 

@@ -3,11 +3,15 @@
 
 mod algebra;
 mod commands;
+mod cover;
+mod cover_text;
 mod entry;
 mod line;
 mod reduce;
 mod status;
 mod symmetrize;
+mod table;
+mod table_text;
 mod writer;
 
 pub use entry::run;

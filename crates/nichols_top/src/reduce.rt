@@ -8,94 +8,149 @@ ghost use Rattle.nichols_command.specs.Command.{AreInRange};
 ghost use Rattle.nichols_expression.specs.declared.TheConstants.{EXPRESSION_LIMIT};
 ghost use Rattle.nichols_top.specs.Algebra.{scope_of};
 ghost use Rattle.nichols_top.specs.Ended.{HasEnd};
-ghost use Rattle.nichols_top.specs.NormalLine.{normal_line};
+ghost use Rattle.nichols_top.specs.NormalLine.{normal_line, normal_piece};
 ghost use Rattle.nichols_top.specs.Reduce.{form_due, reduce_due};
 ghost use Rattle.nichols_top.specs.Report.{numbered_pieces};
+ghost use Rattle.nichols_crew.specs.Counting.{HasCounted};
+ghost use Rattle.nichols_top.specs.Counted.{algebra_blocks};
 ghost use Rattle.nichols_top.specs.Written.{IsStopped, writer_seen, Puts, Writes};
 
 use crate::algebra::{Ended, put_pieces, status_of};
 use crate::status::Status;
 use crate::writer::{Break, Writer};
+use nichols_braid::Order;
 use nichols_command::Options;
+use nichols_crew::Gate;
+use nichols_field::Field;
 use nichols_input::Document;
 use nichols_io::Sink;
-use nichols_reduce::{Normal, normal};
+use nichols_reduce::{Normal, normal_all};
 use nichols_text::{beyond_text, form_text};
 use nichols_words::Comb;
 use std::alloc::{AllocError, Global};
 use std::thread::Threads;
 
 /// Writes the report of the algebra of a document's braid, and the normal forms of its expressions.
-pub(crate) fn put_reduce<R: Threads + Sync, K: Sink>(
+pub(crate) fn put_reduce<R: Threads + Sync, K: Sink, G: Gate + Sync>(
     rt: &R,
     alloc: Global,
     document: Document,
     options: Options,
     out: &mut Writer<'_, K>,
+    gate: &mut G,
 ) -> Result<Status, Break>
     requires options { AreInRange options }
     requires letters { AllByRecursion (IsOver document.braid.letters) document.expressions }
     requires elements { AllByRecursion (AllElements document.braid.field) document.expressions }
+    requires order { length document.order ≡ document.braid.letters }
     requires number { length document.expressions ≤ EXPRESSION_LIMIT }
     ensures same_sink { out.new.sink.ghost_name ≡ out.old.sink.ghost_name }
     ensures report { Writes (reduce_due document (scope_of options)) (writer_seen K.taken K.faults out.old) (writer_seen K.taken K.faults out.new) result }
+    ensures counted { IfOk result (λ _. HasCounted (algebra_blocks document.braid (scope_of options)) (G.count gate.old) (G.count gate.new)) }
     ensures stopped { result ≡ Err Break.Fault → IsStopped K.taken K.faults out.old.sink.now out.new.sink.now }
 {
-    let Document { braid, expressions } = document;
-    let ended = put_pieces(rt, alloc, braid, options, out)?;
-    put_forms(alloc, &ended, expressions.as_slice(), out)?;
+    let Document {
+        braid,
+        order,
+        expressions,
+    } = document;
+    let ended = put_pieces(rt, alloc, braid, &order, options, out, gate)?;
+    put_forms(
+        rt,
+        alloc,
+        &ended,
+        &order,
+        expressions.as_slice(),
+        options.workers,
+        out,
+    )?;
     Ok(status_of(ended.stop))
 }
 
-/// Writes the normal forms of expressions, numbered from 1 on.
-fn put_forms<K: Sink>(
+/// Writes the normal forms of expressions, numbered from 1 on, which so many workers find.
+fn put_forms<R: Threads + Sync, K: Sink>(
+    rt: &R,
     alloc: Global,
     ended: &Ended,
+    order: &Order,
     expressions: &[Comb],
+    workers: u32,
     out: &mut Writer<'_, K>,
 ) -> Result<(), Break>
     requires reached { HasEnd ended.now.graded ended.now.stop }
     requires letters { AllByRecursion (IsOver ended.now.graded.braid.letters) expressions.now }
     requires elements { AllByRecursion (AllElements ended.now.graded.braid.field) expressions.now }
     requires number { length expressions.now ≤ EXPRESSION_LIMIT }
+    requires some_workers { 1 ≤ workers }
     ensures same_sink { out.new.sink.ghost_name ≡ out.old.sink.ghost_name }
-    ensures pieces { Puts (numbered_pieces (form_due ended.now.graded.braid ended.now.stop ended.now.graded.last) 1 expressions.now) (writer_seen K.taken K.faults out.old) (writer_seen K.taken K.faults out.new) result }
+    ensures pieces { Puts (numbered_pieces (form_due ended.now.graded.braid order.now ended.now.stop ended.now.graded.last) 1 expressions.now) (writer_seen K.taken K.faults out.old) (writer_seen K.taken K.faults out.new) result }
+    ensures stopped { result ≡ Err Break.Fault → IsStopped K.taken K.faults out.old.sink.now out.new.sink.now }
+{
+    // Nothing is left to write, so that no memory may be asked for.
+    if expressions.is_empty() {
+        return Ok(());
+    }
+    let levels = ended.graded.levels();
+    let normals = normal_all(rt, alloc, levels, expressions, workers)?;
+    put_normals(
+        alloc,
+        levels.braid().field(),
+        order,
+        normals.as_slice(),
+        out,
+    )
+}
+
+/// Writes what is known of normal forms, numbered from 1 on.
+fn put_normals<K: Sink>(
+    alloc: Global,
+    field: Field,
+    order: &Order,
+    normals: &[Normal],
+    out: &mut Writer<'_, K>,
+) -> Result<(), Break>
+    requires number { length normals.now ≤ EXPRESSION_LIMIT }
+    ensures same_sink { out.new.sink.ghost_name ≡ out.old.sink.ghost_name }
+    ensures pieces { Puts (numbered_pieces (normal_piece field order.now) 1 normals.now) (writer_seen K.taken K.faults out.old) (writer_seen K.taken K.faults out.new) result }
     ensures stopped { result ≡ Err Break.Fault → IsStopped K.taken K.faults out.old.sink.now out.new.sink.now }
 {
     let mut number = 1;
-    for expression in expressions {
-        put_form(alloc, ended, number, expression, out)?;
+    for normal in normals {
+        put_normal(alloc, field, order, number, normal, out)?;
         number += 1;
     }
     Ok(())
 }
 
-/// Writes the normal form of an expression, or that it is beyond the last finished degree.
-fn put_form<K: Sink>(
+/// Writes a normal form, or that it is beyond the last finished degree.
+fn put_normal<K: Sink>(
     alloc: Global,
-    ended: &Ended,
+    field: Field,
+    order: &Order,
     number: u32,
-    expression: &Comb,
+    normal: &Normal,
     out: &mut Writer<'_, K>,
 ) -> Result<(), Break>
-    requires reached { HasEnd ended.now.graded ended.now.stop }
-    requires letters { IsOver ended.now.graded.braid.letters expression.now }
-    requires elements { AllElements ended.now.graded.braid.field expression.now }
     ensures same_sink { out.new.sink.ghost_name ≡ out.old.sink.ghost_name }
-    ensures piece { Puts (form_due ended.now.graded.braid ended.now.stop ended.now.graded.last number expression.now ∷ []) (writer_seen K.taken K.faults out.old) (writer_seen K.taken K.faults out.new) result }
+    ensures piece { Puts (normal_piece field order.now number normal.now ∷ []) (writer_seen K.taken K.faults out.old) (writer_seen K.taken K.faults out.new) result }
     ensures stopped { result ≡ Err Break.Fault → IsStopped K.taken K.faults out.old.sink.now out.new.sink.now }
 {
-    let normal = normal(alloc, ended.graded.levels(), expression)?;
-    let text = normal_text(alloc, number, &normal)?;
+    let text = normal_text(alloc, field, order, number, normal)?;
     out.put(text.as_slice(), None)
 }
 
 /// The line of a normal form, or of one that is beyond the last finished degree.
-fn normal_text(alloc: Global, number: u32, normal: &Normal) -> Result<Vec<u8>, AllocError>
-    ensures { IfOk result (λ text. text.items ≡ normal_line number normal.now) }
+fn normal_text(
+    alloc: Global,
+    field: Field,
+    order: &Order,
+    number: u32,
+    normal: &Normal,
+) -> Result<Vec<u8>, AllocError>
+    ensures { IfOk result (λ text. text.items ≡ normal_line field order.now number normal.now) }
 {
     match normal {
-        Normal::Form(form) => form_text(alloc, number, form),
+        Normal::Form(form) => form_text(alloc, field, order, number, form),
         Normal::Beyond(last) => beyond_text(alloc, number, *last),
     }
 }

@@ -12,7 +12,7 @@ pub enum Status {
     Usage,
     /// The document is refused.
     Refused,
-    /// The whole report was taken; a limit stopped the algebra.
+    /// The whole report was taken; a limit stopped the algebra or its cover.
     Stopped,
     /// The source failed.
     ReadFault,

@@ -15,7 +15,7 @@ ghost use Rattle.nichols_top.specs.Written.{IsStopped, writer_seen, Puts, Writes
 use crate::line::put_refusal;
 use crate::status::Status;
 use crate::writer::{Break, Writer};
-use nichols_braid::Braid;
+use nichols_braid::{Braid, Order};
 use nichols_input::Document;
 use nichols_io::Sink;
 use nichols_lift::{PLACE_LIMIT, symmetrize};
@@ -31,6 +31,7 @@ pub(crate) fn put_symmetrize<K: Sink>(
 ) -> Result<Status, Break>
     requires letters { AllByRecursion (IsOver document.now.braid.letters) document.now.expressions }
     requires elements { AllByRecursion (AllElements document.now.braid.field) document.now.expressions }
+    requires order { length document.now.order ≡ document.now.braid.letters }
     requires number { length document.now.expressions ≤ EXPRESSION_LIMIT }
     ensures same_sink { out.new.sink.ghost_name ≡ out.old.sink.ghost_name }
     ensures report { Writes (symmetrize_due document.now) (writer_seen K.taken K.faults out.old) (writer_seen K.taken K.faults out.new) result }
@@ -40,8 +41,8 @@ pub(crate) fn put_symmetrize<K: Sink>(
     if let Some(number) = first_long(expressions) {
         return put_refusal(alloc, &Refusal::LongExpression(number), out);
     }
-    put_header(alloc, &document.braid, out)?;
-    put_images(alloc, &document.braid, expressions, out)?;
+    put_header(alloc, &document.braid, &document.order, out)?;
+    put_images(alloc, &document.braid, &document.order, expressions, out)?;
     Ok(Status::Complete)
 }
 
@@ -72,12 +73,18 @@ fn is_long(expression: &Comb) -> bool
 }
 
 /// Writes the header.
-fn put_header<K: Sink>(alloc: Global, braid: &Braid, out: &mut Writer<'_, K>) -> Result<(), Break>
+fn put_header<K: Sink>(
+    alloc: Global,
+    braid: &Braid,
+    order: &Order,
+    out: &mut Writer<'_, K>,
+) -> Result<(), Break>
+    requires { length order.now ≡ braid.now.letters }
     ensures same_sink { out.new.sink.ghost_name ≡ out.old.sink.ghost_name }
-    ensures piece { Puts (piece (symmetrize_piece braid.now) None ∷ []) (writer_seen K.taken K.faults out.old) (writer_seen K.taken K.faults out.new) result }
+    ensures piece { Puts (piece (symmetrize_piece braid.now order.now) None ∷ []) (writer_seen K.taken K.faults out.old) (writer_seen K.taken K.faults out.new) result }
     ensures stopped { result ≡ Err Break.Fault → IsStopped K.taken K.faults out.old.sink.now out.new.sink.now }
 {
-    let text = symmetrize_header(alloc, braid)?;
+    let text = symmetrize_header(alloc, braid, order)?;
     out.put(text.as_slice(), None)
 }
 
@@ -85,6 +92,7 @@ fn put_header<K: Sink>(alloc: Global, braid: &Braid, out: &mut Writer<'_, K>) ->
 fn put_images<K: Sink>(
     alloc: Global,
     braid: &Braid,
+    order: &Order,
     expressions: &[Comb],
     out: &mut Writer<'_, K>,
 ) -> Result<(), Break>
@@ -93,12 +101,12 @@ fn put_images<K: Sink>(
     requires short { AllByRecursion (AllAtMost PLACE_LIMIT) expressions.now }
     requires number { length expressions.now ≤ EXPRESSION_LIMIT }
     ensures same_sink { out.new.sink.ghost_name ≡ out.old.sink.ghost_name }
-    ensures pieces { Puts (numbered_pieces (image_due braid.now) 1 expressions.now) (writer_seen K.taken K.faults out.old) (writer_seen K.taken K.faults out.new) result }
+    ensures pieces { Puts (numbered_pieces (image_due braid.now order.now) 1 expressions.now) (writer_seen K.taken K.faults out.old) (writer_seen K.taken K.faults out.new) result }
     ensures stopped { result ≡ Err Break.Fault → IsStopped K.taken K.faults out.old.sink.now out.new.sink.now }
 {
     let mut number = 1;
     for expression in expressions {
-        put_image(alloc, braid, number, expression, out)?;
+        put_image(alloc, braid, order, number, expression, out)?;
         number += 1;
     }
     Ok(())
@@ -108,6 +116,7 @@ fn put_images<K: Sink>(
 fn put_image<K: Sink>(
     alloc: Global,
     braid: &Braid,
+    order: &Order,
     number: u32,
     expression: &Comb,
     out: &mut Writer<'_, K>,
@@ -116,11 +125,11 @@ fn put_image<K: Sink>(
     requires elements { AllElements braid.now.field expression.now }
     requires short { AllAtMost PLACE_LIMIT expression.now }
     ensures same_sink { out.new.sink.ghost_name ≡ out.old.sink.ghost_name }
-    ensures piece { Puts (image_due braid.now number expression.now ∷ []) (writer_seen K.taken K.faults out.old) (writer_seen K.taken K.faults out.new) result }
+    ensures piece { Puts (image_due braid.now order.now number expression.now ∷ []) (writer_seen K.taken K.faults out.old) (writer_seen K.taken K.faults out.new) result }
     ensures stopped { result ≡ Err Break.Fault → IsStopped K.taken K.faults out.old.sink.now out.new.sink.now }
 {
-    let _field = braid.field();
+    let field = braid.field();
     let image = symmetrize(alloc, braid, expression)?;
-    let text = image_text(alloc, number, &image)?;
+    let text = image_text(alloc, field, order, number, &image)?;
     out.put(text.as_slice(), None)
 }

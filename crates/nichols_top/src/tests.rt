@@ -3,14 +3,20 @@
 ghost use Rattle.std.specs.Prelude.{◌≡◌, ◌<◌};
 
 mod algebras;
+mod covers;
+mod damage;
 mod expressions;
 mod faults;
+mod keys;
 mod plain;
 mod points;
 mod refusals;
+mod rows;
+mod tables;
 mod workers;
 
 use crate::run;
+use nichols_crew::{Gate, OpenGate};
 use nichols_io::{MemorySink, MemorySource};
 use std::alloc::{AllocError, Global};
 use std::thread::Threads;
@@ -30,6 +36,10 @@ pub(crate) const TETRAHEDRON: &str =
 /// The tetrahedron, over 2 elements.
 pub(crate) const TETRAHEDRON_TWO: &str =
     "modulus = 2\nrack = [[1, 4, 2, 3], [3, 2, 4, 1], [4, 1, 3, 2], [2, 3, 1, 4]]\ncocycle = 1\n";
+
+/// The three transpositions of three points over four elements, with a primitive cube root of unity at every place.
+pub(crate) const THREE_OVER_FOUR: &str =
+    "modulus = 2\nextension = [1, 1]\nrack = [[1, 3, 2], [3, 2, 1], [2, 1, 3]]\ncocycle = [0, 1]\n";
 
 /// The six transpositions of four points.
 pub(crate) const SIX_TRANSPOSITIONS: &str =
@@ -66,7 +76,7 @@ pub(crate) type Row = (
     u8,
 );
 
-/// A run: its words and its document, the reads and the writes that fail, and the most bytes that a write takes.
+/// A run: its words and its document, the reads and the writes that fail, the most bytes that a write takes, and the sink's room.
 #[derive(Clone, Copy)]
 pub(crate) struct Run<'a> {
     pub(crate) words: &'a [&'a str],
@@ -74,6 +84,7 @@ pub(crate) struct Run<'a> {
     pub(crate) reads: &'a [u64],
     pub(crate) writes: &'a [u64],
     pub(crate) most: usize,
+    pub(crate) room: usize,
 }
 
 impl<'a> Run<'a> {
@@ -87,6 +98,7 @@ impl<'a> Run<'a> {
             reads: &[],
             writes: &[],
             most: 4096,
+            room: 1_048_576,
         }
     }
 }
@@ -107,11 +119,23 @@ pub(crate) fn ran<R: Threads + Sync>(
 ) -> Result<(Vec<u8>, u8), AllocError>
     requires { 0 < given.most }
 {
+    ran_past(rt, alloc, given, &mut OpenGate::new())
+}
+
+/// The same with a gate.
+pub(crate) fn ran_past<R: Threads + Sync, G: Gate + Sync>(
+    rt: &R,
+    alloc: Global,
+    given: Run,
+    gate: &mut G,
+) -> Result<(Vec<u8>, u8), AllocError>
+    requires { 0 < given.most }
+{
     let words = words_of(alloc, given.words)?;
     let bytes = given.document.to_vec(alloc)?;
     let mut source = MemorySource::new(bytes, 16, given.reads.to_vec(alloc)?);
-    let mut sink = MemorySink::new(alloc, 1_048_576, given.most, given.writes.to_vec(alloc)?)?;
-    let status = run(rt, alloc, words.as_slice(), &mut source, &mut sink);
+    let mut sink = MemorySink::new(alloc, given.room, given.most, given.writes.to_vec(alloc)?)?;
+    let status = run(rt, alloc, words.as_slice(), &mut source, &mut sink, gate);
     Ok((sink.taken().to_vec(alloc)?, status))
 }
 

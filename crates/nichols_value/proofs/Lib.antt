@@ -1,6 +1,7 @@
 pub mod Blocks
 pub mod FewWords
 pub mod FormCells
+pub mod KeptEnds
 pub mod KeptRows
 pub mod LeftBlocks
 pub mod LookedUp

@@ -1,5 +1,5 @@
 -- How a rule is kept: rows of cells, whose columns are places in lists of words.
-use Rattle.std.specs.Prelude.{◌≡◌, ◌<◌, ◌-◌, ℕ, List, [], ◌∷◌, ◌++◌, map, length, Option, slice_index_or}
+use Rattle.std.specs.Prelude.{◌≡◌, ◌≤◌, ◌<◌, ◌-◌, ℕ, List, [], ◌∷◌, ◌++◌, map, length, Option, slice_index, slice_index_or}
 use Rattle.std.specs.List.{AllByRecursion}
 use Rattle.nichols_tensor.specs.declared.TheConstants.{WORD_LIMIT}
 use Rattle.nichols_tensor.specs.Combination.{Combination}
@@ -9,6 +9,7 @@ use Rattle.nichols_tensor.specs.WordOrder.{IsRising}
 use Rattle.nichols_echelon.specs.Cells.{AllBelow, Cell, IsRow}
 use Rattle.nichols_echelon.specs.Rows.{RowsValue}
 use Rattle.nichols_rows.specs.CombinationAt.{combination_at}
+use Rattle.nichols_value.specs.declared.ends.Ends.{Ends}
 use Rattle.nichols_value.specs.declared.key.BlockKey.{BlockKey}
 use Rattle.nichols_value.specs.declared.spot.Spot.{Spot}
 use Rattle.nichols_value.specs.Rule.{PlainRule, PlainUpper, by_letter}
@@ -87,6 +88,18 @@ pub record IsUpperShaped (basis : List (List ℕ)) (below : List (List (List ℕ
   pub derivs_rows : AllByRecursion (λ (r : RowsValue). length r.rows ≡ length basis) derivs
   pub left_forms : AllByRecursion (AreFormRows (length basis)) left
   pub letters : length left ≡ length below
+
+-- where a word of a block of product g stands without its last letter, among the words below by it, and without its first one, among
+-- the words below by the letter that g sends to it
+pub record AreEndsOf (g : List ℕ) (below : List (List (List ℕ))) (w : List ℕ) (ends : Ends) : Type 0 where
+  pub front : (b : ℕ) (u : List ℕ) → w ≡ u ++ b ∷ [] → (ends.front < length (by_letter below b)) × (word_at (by_letter below b) ends.front ≡ u)
+  pub back : (c : ℕ) (v : List ℕ) → 1 ≤ c → c ≤ length g → w ≡ slice_index g (c - 1) ∷ v → (ends.back < length (by_letter below c)) × (word_at (by_letter below c) ends.back ≡ v)
+
+-- the same for each word of a list
+abbrev pub AreEnds : List ℕ → List (List (List ℕ)) → List (List ℕ) → List Ends → Type 0
+AreEnds g below [] [] = Unit {0}
+AreEnds g below (w ∷ ws) (e ∷ ends) = AreEndsOf g below w e × AreEnds g below ws ends
+AreEnds g below _ _ = ⊥
 
 -- the cells of a form: their columns are places of words, and they are the form
 pub record AreCellsOf (ws : List (List ℕ)) (f : Combination) (cells : List Cell) : Type 0 where

@@ -5,6 +5,7 @@
 //! `AllocError` says that there was no memory.
 #![tactic(auto)]
 
+mod ends;
 mod form;
 mod key;
 pub mod laws;
@@ -15,6 +16,7 @@ mod spot;
 mod value;
 mod words;
 
+pub use ends::Ends;
 pub use form::{Form, LentRelation, Looked};
 pub use key::BlockKey;
 pub use rule::{BlockRule, Upper};

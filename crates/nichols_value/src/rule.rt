@@ -1,11 +1,13 @@
 //! The rule of a block.
 
-ghost use Rattle.std.specs.Prelude.{◌≡◌, ◌<◌, ◌≤◌, ◌-◌, [], IfOk, Some, length, slice_index_or};
+ghost use Rattle.std.specs.Prelude.{◌≡◌, ◌<◌, ◌≤◌, ◌-◌, [], IfOk, Some, is_some, length, slice_index_or, true};
 ghost use Rattle.nichols_tensor.specs.declared.TheConstants.{LETTER_LIMIT};
+ghost use Rattle.nichols_tensor.specs.Positions.{word_at};
 ghost use Rattle.nichols_tensor.specs.WordOrder.{IsRising};
 ghost use Rattle.nichols_value.specs.Rule.{below_in, derivs_in, left_in, right_in, without_upper};
-ghost use Rattle.nichols_value.specs.Kept.{AreCellsOf, IsShaped, IsUpperShaped, rule_by, upper_by};
+ghost use Rattle.nichols_value.specs.Kept.{AreCellsOf, AreEnds, AreEndsOf, IsShaped, IsUpperShaped, rule_by, upper_by};
 
+use crate::ends::Ends;
 use crate::form::{Form, LentRelation};
 use crate::key::BlockKey;
 use crate::spot::Spot;
@@ -16,11 +18,13 @@ use std::alloc::AllocError;
 use std::marker::Model;
 
 /// What serves the degree above alone: by letter a, from letter 1 on, the derivatives by a of the least words, and the normal
-/// forms of `a v` for the least words v of one letter less for which it has the block's product.
+/// forms of `a v` for the least words v of one letter less for which it has the block's product; and where each least word stands
+/// below without its end letters.
 #[derive(Drop)]
 pub struct Upper {
     derivs: Vec<Rows>,
     left: Vec<Rows>,
+    ends: Vec<Ends>,
 }
 
 /// The rule of a block: its least words, its relations and the normal forms of its candidates, as rows of places.
@@ -37,14 +41,14 @@ pub struct BlockRule {
 impl Model for BlockRule {
     ghost use Rattle.std.specs.Prelude.{MatchOption, option_map};
     ghost use Rattle.nichols_value.specs.Rule.{PlainRule};
-    ghost use Rattle.nichols_value.specs.Kept.{rule_by, upper_by, IsShaped, IsUpperShaped};
+    ghost use Rattle.nichols_value.specs.Kept.{AreEnds, rule_by, upper_by, IsShaped, IsUpperShaped};
 
     ghost Value = { PlainRule };
 
     ghost view = { λ r. rule_by r.key r.basis r.below.items r.right.items r.spots.items (option_map (λ u. upper_by r.basis r.below.items u.derivs.items u.left.items) r.upper) };
 
     ghost invariant = { λ r. IsShaped r.key r.basis r.below.items r.right.items r.spots.items
-        × MatchOption r.upper (Unit {0}) (λ u. IsUpperShaped r.basis r.below.items u.derivs.items u.left.items) };
+        × MatchOption r.upper (Unit {0}) (λ u. IsUpperShaped r.basis r.below.items u.derivs.items u.left.items × AreEnds r.key.product r.below.items r.basis u.ends.items) };
 }
 
 /// A row of those of a letter, from letter 1 on.
@@ -59,7 +63,7 @@ fn row_of(lists: &[Rows], letter: u8, k: usize) -> &[Cell]
 
 impl BlockRule {
     /// The rule with these parts: its block, its least words, those of the lower blocks by letter, the rows of the normal forms of
-    /// its candidates, where those of its relations stand, and the rows that serve the degree above.
+    /// its candidates, where those of its relations stand, and what serves the degree above.
     pub fn new(
         key: BlockKey,
         basis: Words,
@@ -68,9 +72,11 @@ impl BlockRule {
         spots: Vec<Spot>,
         derivs: Vec<Rows>,
         left: Vec<Rows>,
+        ends: Vec<Ends>,
     ) -> BlockRule
         requires shape { IsShaped key basis below.items right.items spots.items }
         requires upper { IsUpperShaped basis below.items derivs.items left.items }
+        requires ends { AreEnds key.product below.items basis ends.items }
         ensures { result ≡ rule_by key basis below.items right.items spots.items (Some (upper_by basis below.items derivs.items left.items)) }
     {
         BlockRule {
@@ -79,7 +85,7 @@ impl BlockRule {
             below,
             right,
             spots,
-            upper: Some(Upper { derivs, left }),
+            upper: Some(Upper { derivs, left, ends }),
         }
     }
 
@@ -156,6 +162,19 @@ impl BlockRule {
     {
         match &self.upper {
             Some(upper) => row_of(upper.left.as_slice(), a, k),
+            None => unreachable!(),
+        }
+    }
+
+    /// Where the k-th least word stands below without its last letter, and without its first one, as long as what serves the
+    /// degree above isn't let go.
+    pub fn ends(&self, k: usize) -> Ends
+        requires kept { is_some self.now.upper ≡ true }
+        requires place { k < length self.now.basis }
+        ensures { AreEndsOf self.now.key.product self.now.below (word_at self.now.basis k) result }
+    {
+        match &self.upper {
+            Some(upper) => upper.ends[k],
             None => unreachable!(),
         }
     }

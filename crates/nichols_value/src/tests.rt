@@ -1,6 +1,4 @@
-ghost use Rattle.std.specs.Prelude.{◌≡◌, ◌<◌, ◌∷◌, IfOk, [], length};
-ghost use Rattle.nichols_tensor.specs.declared.TheConstants.{LETTER_LIMIT};
-ghost use Rattle.nichols_tensor.specs.Words.{IsLetterOf};
+ghost use Rattle.std.specs.Prelude.{◌≡◌, ◌<◌, ◌∷◌, IfOk, [], is_some, length, true};
 ghost use Rattle.nichols_value.specs.Rule.{derivs_in, left_in};
 
 use super::*;
@@ -11,23 +9,24 @@ use nichols_words::{Term, Word};
 use std::alloc::{AllocError, Global};
 use std::test::Fail;
 
-/// The word of one letter, as a list that blocks share.
-fn one_letter(alloc: Global, letter: u8) -> Result<Words, AllocError>
-    requires { IsLetterOf LETTER_LIMIT letter }
-    ensures { IfOk result (λ w. w ≡ (letter ∷ []) ∷ []) }
+/// The words 1 and 2.
+fn letters(alloc: Global) -> Result<Words, AllocError>
+    ensures { IfOk result (λ w. w ≡ (1 ∷ []) ∷ (2 ∷ []) ∷ []) }
 {
     let mut words = Vec::new(alloc);
-    words.push(Word::empty().followed_by(letter))?;
+    words.push(Word::empty().followed_by(1))?;
+    words.push(Word::empty().followed_by(2))?;
     Words::of(alloc, words)
 }
 
-/// The words 1.2 and 2.3.
-fn two_words(alloc: Global) -> Result<Words, AllocError>
-    ensures { IfOk result (λ w. w ≡ (1 ∷ 2 ∷ []) ∷ (2 ∷ 3 ∷ []) ∷ []) }
+/// The words 1.1, 1.2 and 2.2.
+fn three_words(alloc: Global) -> Result<Words, AllocError>
+    ensures { IfOk result (λ w. w ≡ (1 ∷ 1 ∷ []) ∷ (1 ∷ 2 ∷ []) ∷ (2 ∷ 2 ∷ []) ∷ []) }
 {
     let mut words = Vec::new(alloc);
+    words.push(Word::empty().followed_by(1).followed_by(1))?;
     words.push(Word::empty().followed_by(1).followed_by(2))?;
-    words.push(Word::empty().followed_by(2).followed_by(3))?;
+    words.push(Word::empty().followed_by(2).followed_by(2))?;
     Words::of(alloc, words)
 }
 
@@ -40,86 +39,94 @@ fn cell(column: u32, coefficient: u32) -> Cell
     }
 }
 
-/// The one row of a combination of the two words.
-fn row_over(alloc: Global, cells: &[Cell]) -> Result<Rows, AllocError>
-    ensures { IfOk result (λ r. r ≡ record { rows = cells.now ∷ []; begun = [] }) }
-{
-    let mut rows = Rows::new(alloc);
-    rows.push_row(cells)?;
-    Ok(rows)
-}
-
-/// The rows of 3.1, 1.2 and 2.3 over 1.2 and 2.3.
-fn right_rows(alloc: Global) -> Result<Vec<Rows>, AllocError>
-    ensures { IfOk result (λ r. r.items ≡ record { rows = (record { column = 0; coefficient = 100 } ∷ record { column = 1; coefficient = 100 } ∷ []) ∷ []; begun = [] }
-        ∷ record { rows = (record { column = 0; coefficient = 1 } ∷ []) ∷ []; begun = [] } ∷ record { rows = (record { column = 1; coefficient = 1 } ∷ []) ∷ []; begun = [] } ∷ []) }
-{
-    let mut rows = Vec::new(alloc);
-    rows.push(row_over(alloc, &[cell(0, 100), cell(1, 100)])?)?;
-    rows.push(row_over(alloc, &[cell(0, 1)])?)?;
-    rows.push(row_over(alloc, &[cell(1, 1)])?)?;
-    Ok(rows)
-}
-
-/// The rows of the derivatives of 1.2 and 2.3 by each letter.
-fn derivative_rows(alloc: Global) -> Result<Vec<Rows>, AllocError>
-    ensures { IfOk result (λ r. r.items ≡ record { rows = (record { column = 0; coefficient = 100 } ∷ []) ∷ [] ∷ []; begun = [] }
-        ∷ record { rows = (record { column = 0; coefficient = 1 } ∷ []) ∷ (record { column = 0; coefficient = 100 } ∷ []) ∷ []; begun = [] }
-        ∷ record { rows = [] ∷ (record { column = 0; coefficient = 1 } ∷ []) ∷ []; begun = [] } ∷ []) }
-{
-    let mut by_one = row_over(alloc, &[cell(0, 100)])?;
-    by_one.close()?;
-    let mut by_two = row_over(alloc, &[cell(0, 1)])?;
-    by_two.push_row(&[cell(0, 100)])?;
-    let mut by_three = row_over(alloc, &[])?;
-    by_three.push_row(&[cell(0, 1)])?;
-    let mut rows = Vec::new(alloc);
-    rows.push(by_one)?;
-    rows.push(by_two)?;
-    rows.push(by_three)?;
-    Ok(rows)
-}
-
-/// The lists of the words 3, 1 and 2.
-fn words_below(alloc: Global) -> Result<Vec<Words>, AllocError>
-    ensures { IfOk result (λ r. r.items ≡ ((3 ∷ []) ∷ []) ∷ ((1 ∷ []) ∷ []) ∷ ((2 ∷ []) ∷ []) ∷ []) }
+/// The rows of 1.1 and 2.1, and those of 1.2 and 2.2, over 1.1, 1.2 and 2.2; and as well those of 1.1 and 1.2, and of 2.1 and 2.2.
+fn form_rows(alloc: Global) -> Result<Vec<Rows>, AllocError>
+    ensures { IfOk result (λ r. r.items ≡ record { rows = (record { column = 0; coefficient = 1 } ∷ []) ∷ (record { column = 1; coefficient = 1 } ∷ []) ∷ []; begun = [] }
+        ∷ record { rows = (record { column = 1; coefficient = 1 } ∷ []) ∷ (record { column = 2; coefficient = 1 } ∷ []) ∷ []; begun = [] } ∷ []) }
 {
     let mut lists = Vec::new(alloc);
-    lists.push(one_letter(alloc, 3)?)?;
-    lists.push(one_letter(alloc, 1)?)?;
-    lists.push(one_letter(alloc, 2)?)?;
+    let mut rows = Rows::new(alloc);
+    rows.push_row(&[cell(0, 1)])?;
+    rows.push_row(&[cell(1, 1)])?;
+    lists.push(rows)?;
+    let mut rows = Rows::new(alloc);
+    rows.push_row(&[cell(1, 1)])?;
+    rows.push_row(&[cell(2, 1)])?;
+    lists.push(rows)?;
     Ok(lists)
 }
 
-/// Where the form of 3.1 stands.
+/// The rows of the derivatives of 1.1, 1.2 and 2.2 by each letter.
+fn derivative_rows(alloc: Global) -> Result<Vec<Rows>, AllocError>
+    ensures { IfOk result (λ r. r.items ≡ record { rows = (record { column = 0; coefficient = 2 } ∷ []) ∷ (record { column = 1; coefficient = 1 } ∷ []) ∷ [] ∷ []; begun = [] }
+        ∷ record { rows = [] ∷ (record { column = 0; coefficient = 1 } ∷ []) ∷ (record { column = 1; coefficient = 2 } ∷ []) ∷ []; begun = [] } ∷ []) }
+{
+    let mut lists = Vec::new(alloc);
+    let mut rows = Rows::new(alloc);
+    rows.push_row(&[cell(0, 2)])?;
+    rows.push_row(&[cell(1, 1)])?;
+    rows.push_row(&[])?;
+    lists.push(rows)?;
+    let mut rows = Rows::new(alloc);
+    rows.push_row(&[])?;
+    rows.push_row(&[cell(0, 1)])?;
+    rows.push_row(&[cell(1, 2)])?;
+    lists.push(rows)?;
+    Ok(lists)
+}
+
+/// The words 1 and 2 for each letter.
+fn words_below(alloc: Global) -> Result<Vec<Words>, AllocError>
+    ensures { IfOk result (λ r. r.items ≡ ((1 ∷ []) ∷ (2 ∷ []) ∷ []) ∷ ((1 ∷ []) ∷ (2 ∷ []) ∷ []) ∷ []) }
+{
+    let mut lists = Vec::new(alloc);
+    lists.push(letters(alloc)?)?;
+    lists.push(letters(alloc)?)?;
+    Ok(lists)
+}
+
+/// Where 1.1, 1.2 and 2.2 stand without their last and without their first letter.
+fn ends(alloc: Global) -> Result<Vec<Ends>, AllocError>
+    ensures { IfOk result (λ r. r.items ≡ record { front = 0; back = 0 } ∷ record { front = 0; back = 1 } ∷ record { front = 1; back = 1 } ∷ []) }
+{
+    let mut ends = Vec::new(alloc);
+    ends.push(Ends { front: 0, back: 0 })?;
+    ends.push(Ends { front: 0, back: 1 })?;
+    ends.push(Ends { front: 1, back: 1 })?;
+    Ok(ends)
+}
+
+/// Where the form of 2.1 stands.
 fn spots(alloc: Global) -> Result<Vec<Spot>, AllocError>
-    ensures { IfOk result (λ r. r.items ≡ record { letter = 1; place = 0 } ∷ []) }
+    ensures { IfOk result (λ r. r.items ≡ record { letter = 1; place = 1 } ∷ []) }
 {
     let mut spots = Vec::new(alloc);
     spots.push(Spot {
         letter: 1,
-        place: 0,
+        place: 1,
     })?;
     Ok(spots)
 }
 
-/// The rule of the block of 1.2, 2.3 and 3.1 of the three transpositions, with the scalar -1 over the field of 101 elements:
-/// 3.1 is -1.2 - 2.3.
+/// The rule of the block of degree 2 of two letters that commute, over the field of 101 elements: 2.1 is 1.2.
 fn rule(alloc: Global) -> Result<BlockRule, AllocError>
-    ensures derivatives { IfOk result (λ r. length (derivs_in r 2) ≡ 2) }
-    ensures left { IfOk result (λ r. length (left_in r 3) ≡ 1) }
+    ensures derivatives { IfOk result (λ r. length (derivs_in r 2) ≡ 3) }
+    ensures left { IfOk result (λ r. length (left_in r 2) ≡ 2) }
+    ensures upper { IfOk result (λ r. is_some r.upper ≡ true) }
+    ensures basis { IfOk result (λ r. length r.basis ≡ 3) }
 {
     let key = BlockKey {
         degree: 2,
-        product: Product::identity(3),
+        product: Product::identity(2),
     };
-    let basis = two_words(alloc)?;
+    let basis = three_words(alloc)?;
     let below = words_below(alloc)?;
-    let right = right_rows(alloc)?;
+    let right = form_rows(alloc)?;
     let spots = spots(alloc)?;
     let derivs = derivative_rows(alloc)?;
-    let left = right_rows(alloc)?;
-    Ok(BlockRule::new(key, basis, below, right, spots, derivs, left))
+    let left = form_rows(alloc)?;
+    let ends = ends(alloc)?;
+    Ok(BlockRule::new(key, basis, below, right, spots, derivs, left, ends))
 }
 
 /// Whether a form has these terms, in this order.
@@ -144,29 +151,30 @@ fn has_terms(form: &Form<'_>, expected: &[(&str, u32)]) -> bool {
 #[test]
 fn rule_has_its_words(rt: HostRuntime) -> Result<(), Fail> {
     let rule = rule(rt.alloc())?;
-    assert_eq!(rt; rule.letters(), 3);
-    assert!(rt; has_words(rule.basis(), &["1.2", "2.3"]));
-    assert!(rt; has_words(rule.shared_basis()?.as_slice(), &["1.2", "2.3"]));
-    let below = [["3"], ["1"], ["2"]];
+    assert_eq!(rt; rule.letters(), 2);
+    let words = ["1.1", "1.2", "2.2"];
+    assert!(rt; has_words(rule.basis(), &words));
+    assert!(rt; has_words(rule.shared_basis()?.as_slice(), &words));
     for b in 1..=rule.letters() {
-        assert!(rt;
-            has_words(rule.below(b), &below[usize::from(b) - 1]),
-            "letter {b}"
-        );
+        assert!(rt; has_words(rule.below(b), &["1", "2"]), "letter {b}");
+    }
+    for (k, places) in [(0, 0), (0, 1), (1, 1)].iter().enumerate() {
+        let ends = rule.ends(k);
+        assert_eq!(rt; (ends.front, ends.back), *places, "word {k}");
     }
     Ok(())
 }
 
-/// Whether the relation of a rule at this index is that of 3.1.
-fn is_relation_of_31(alloc: Global, rule: &BlockRule, k: usize) -> Result<bool, AllocError>
+/// Whether the relation of a rule at this index is that of 2.1.
+fn is_relation_of_21(alloc: Global, rule: &BlockRule, k: usize) -> Result<bool, AllocError>
     requires { k < length rule.now.table }
 {
     let relation = rule.relation(k);
     let copy = relation.form.copy(alloc)?;
     Ok(
-        relation.candidate == word("3.1")
-            && copy.terms().len() == 2
-            && has_terms(&relation.form, &[("1.2", 100), ("2.3", 100)]),
+        relation.candidate == word("2.1")
+            && copy.terms().len() == 1
+            && has_terms(&relation.form, &[("1.2", 1)]),
     )
 }
 
@@ -176,11 +184,12 @@ fn rule_has_its_forms(rt: HostRuntime) -> Result<(), Fail> {
     let rule = rule(alloc)?;
     assert_eq!(rt; rule.relation_count(), 1);
     for k in 0..rule.relation_count() {
-        assert!(rt; is_relation_of_31(alloc, &rule, k)?);
+        assert!(rt; is_relation_of_21(alloc, &rule, k)?);
     }
-    assert!(rt; has_terms(&rule.derivative(2, 0), &[("1", 1)]));
-    assert!(rt; has_terms(&rule.derivative(2, 1), &[("1", 100)]));
-    assert_eq!(rt; rule.left_row(3, 0).len(), 1);
+    assert!(rt; has_terms(&rule.derivative(2, 0), &[]));
+    assert!(rt; has_terms(&rule.derivative(2, 1), &[("1", 1)]));
+    assert!(rt; has_terms(&rule.derivative(2, 2), &[("2", 2)]));
+    assert_eq!(rt; rule.left_row(2, 0).len(), 1);
     Ok(())
 }
 
@@ -209,11 +218,11 @@ fn has_form(rule: &BlockRule, text: &str, expected: &[(&str, u32)]) -> bool {
 #[test]
 fn words_are_looked_up(rt: HostRuntime) -> Result<(), Fail> {
     let rule = rule(rt.alloc())?;
-    for text in ["1.2", "2.3"] {
+    for text in ["1.1", "1.2", "2.2"] {
         assert!(rt; is_in_basis(&rule, text), "{text}");
     }
-    assert!(rt; has_form(&rule, "3.1", &[("1.2", 100), ("2.3", 100)]));
-    for text in ["1.3", "3.2", "3.1.1", "1", ""] {
+    assert!(rt; has_form(&rule, "2.1", &[("1.2", 1)]));
+    for text in ["1.3", "3.2", "2.1.1", "1", ""] {
         assert!(rt; is_not_here(&rule, text), "{text}");
     }
     Ok(())

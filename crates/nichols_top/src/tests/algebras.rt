@@ -2,7 +2,7 @@
 
 use super::{
     AFFINE_FIVE, BRIEF, CLOSED, DEGREES, Run, SIX_TRANSPOSITIONS, TETRAHEDRON, TETRAHEDRON_TWO,
-    THREE, THREE_BY_A_CONSTANT, are_written, ran,
+    THREE, THREE_BY_A_CONSTANT, THREE_OVER_FOUR, are_written, ran,
 };
 use std::alloc::Global;
 use std::test::Fail;
@@ -228,7 +228,7 @@ fn a_rack_of_24_letters_has_too_many_products(rt: HostRuntime) -> Result<(), Fai
 }
 
 /// The documents of `examples/` with the three last lines of their reports: the known dimensions, and the factors by another program.
-const CLOSED_ALGEBRAS: [(&str, &str); 5] = [
+const CLOSED_ALGEBRAS: [(&str, &str); 6] = [
     (
         THREE,
         "closed top 4 dimension 12\nhilbert 1 3 4 3 1 0\nfactors 3 2 2\n",
@@ -244,6 +244,10 @@ const CLOSED_ALGEBRAS: [(&str, &str); 5] = [
     (
         SIX_TRANSPOSITIONS,
         "closed top 12 dimension 576\nhilbert 1 6 19 42 71 96 106 96 71 42 19 6 1 0\nfactors 4 4 3 3 2 2\n",
+    ),
+    (
+        THREE_OVER_FOUR,
+        "closed top 20 dimension 432\nhilbert 1 3 7 12 18 24 29 33 35 36 36 36 35 33 29 24 18 12 7 3 1 0\nfactors none\n",
     ),
     (
         AFFINE_FIVE,

@@ -4,7 +4,7 @@ use super::{CLOSED, DEGREES, Row, are_written};
 use std::test::Fail;
 
 /// The three transpositions with expressions.
-const FOUR: &str =
+pub(crate) const FOUR: &str =
     "modulus = 101\nrack = [[1, 3, 2], [3, 2, 1], [2, 1, 3]]\ncocycle = -1\nexpressions = [\"1.2.1 - 2.1.2\", \"3.1\", \"e\", \"1.2.1.3.1.2.1.3.1\"]\n";
 
 const UP_TO_TWO: &str =

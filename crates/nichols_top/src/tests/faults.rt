@@ -4,7 +4,7 @@ use super::{Run, THREE, UP_TO_TWO, ran};
 use std::test::Fail;
 
 const USAGE: &str =
-    "usage: nichols algebra or reduce or symmetrize or points K [--degree N] [--rows N] [--workers N] [--window N] [--brief]\n";
+    "usage: nichols algebra or reduce or symmetrize or points K or table or cover [--degree N] [--rows N] [--workers N] [--window N] [--brief]\n";
 
 /// The words, the document, the reads and the writes that fail, the text and the status, of runs that end without a
 /// report or within it.
@@ -32,15 +32,6 @@ const FAULTS: [(&[&str], &str, &[u64], &[u64], &str, u8); 14] = [
     ),
 ];
 
-/// The pieces of the report of the three transpositions up to degree 2.
-const PIECES: [&str; 5] = [
-    "nichols p 101 letters 3 degree 2 rows 1024\n",
-    "degree 0 dimension 1\nbasis e\n",
-    "degree 1 dimension 3\nbasis 1 2 3\n",
-    "degree 2 dimension 4\nbasis 1.2 1.3 2.1 2.3\nrelation 1.1 = 0\nrelation 2.2 = 0\nrelation 3.1 = 100*1.2 + 100*2.3\nrelation 3.2 = 100*1.3 + 100*2.1\nrelation 3.3 = 0\n",
-    "stopped degree limit last 2\nhilbert 1 3 4\n",
-];
-
 #[test]
 fn faults_are_told(rt: HostRuntime) -> Result<(), Fail> {
     let alloc = rt.alloc();
@@ -57,24 +48,6 @@ fn faults_are_told(rt: HostRuntime) -> Result<(), Fail> {
             "{reads:?} {writes:?} of {document}"
         );
         assert_eq!(rt; ended, status, "{reads:?} {writes:?} of {document}");
-    }
-    Ok(())
-}
-
-/// A sink that fails at each of the writes in turn has the pieces before it.
-#[test]
-fn a_sink_fails_after_each_number_of_writes(rt: HostRuntime) -> Result<(), Fail> {
-    let alloc = rt.alloc();
-    let mut before = Vec::new(alloc);
-    for (write, piece) in (1..6u64).zip(PIECES) {
-        let given = Run {
-            writes: &[write],
-            ..Run::steady(UP_TO_TWO, THREE.as_bytes())
-        };
-        let (written, ended) = ran(&rt, alloc, given)?;
-        assert_eq!(rt; written.as_slice(), before.as_slice(), "at write {write}");
-        assert_eq!(rt; ended, 5, "at write {write}");
-        before.extend_from_slice(piece.as_bytes())?;
     }
     Ok(())
 }

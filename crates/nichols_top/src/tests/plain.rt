@@ -1,6 +1,7 @@
 //! The degrees of some algebras by the plain program.
 
 use nichols_braid::Braid;
+use nichols_crew::OpenGate;
 use nichols_graded::Graded;
 use nichols_lift::PLACE_LIMIT;
 use nichols_plain::plain_degree;
@@ -44,13 +45,14 @@ fn are_plain<R: Threads + Sync>(
     braid: Braid,
     degrees: u32,
 ) -> Result<bool, Fail> {
-    let mut graded = Graded::start(alloc, braid, 12, 1024)?;
+    let mut gate = OpenGate::new();
+    let mut graded = Graded::start(alloc, braid, 12, 1024, 1)?;
     for m in 0..degrees {
         if m > 0 {
             if graded.ended() {
                 return Err("ended early".into());
             }
-            graded.advance(rt, alloc, 3)?;
+            graded.advance(rt, alloc, 3, &mut gate)?;
         }
         if !is_plain(alloc, &graded, m)? {
             return Ok(false);

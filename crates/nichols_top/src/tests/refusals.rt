@@ -11,7 +11,7 @@ const ONE: &str = "modulus = 7\nrack = [[1]]\ncocycle = 1\n";
 const SYMMETRIZE: &[&str] = &["symmetrize"];
 
 /// The words, the document as pieces with how often each stands, and the line of a refusal.
-type Refused = (
+pub(super) type Refused = (
     &'static [&'static str],
     &'static [(usize, &'static str)],
     &'static str,
@@ -393,7 +393,11 @@ fn whole(alloc: Global, pieces: &[(usize, &str)]) -> Result<Vec<u8>, AllocError>
 }
 
 /// Whether the document of a row is refused with its line.
-fn is_refused<R: Threads + Sync>(rt: &R, alloc: Global, row: Refused) -> Result<bool, AllocError> {
+pub(super) fn is_refused<R: Threads + Sync>(
+    rt: &R,
+    alloc: Global,
+    row: Refused,
+) -> Result<bool, AllocError> {
     let (words, pieces, line) = row;
     let document = whole(alloc, pieces)?;
     let given = Run::steady(words, document.as_slice());

@@ -22,5 +22,5 @@ loop-j-preserved c =
     let fits : SFits w64 (slice_index_or c.args.row.now c.loop-j.j (pos 0)) = search rules in
     record {
       faultless = entry_passed c.args.letters c.args.i c.loop-j.j c.args.row.now (to_z w64 (of_z w64 v)) (sym (to_z-of_z w64 v fits)) c.loop-j.invariant.faultless c.in-Some.ensures.0;
-      letters = row_step letter_of c.args.row.now c.loop-j.j c.args.out.now.items c.loop-j.out.items c.push.new.self.items c.in-Some.letter c.loop-j-test.true c.loop-j.invariant.letters c.in_ok-push-in-Some.ensures.items (c.in-Some.ensures.1 ∙ ap letter_of (to_z-of_z w64 v fits));
+      letters = row_step (pos 0) letter_of c.args.row.now c.loop-j.j c.args.out.now.items c.loop-j.out.items c.push.new.self.items c.in-Some.letter c.loop-j-test.true c.loop-j.invariant.letters c.in_ok-push-in-Some.ensures.items (c.in-Some.ensures.1 ∙ ap letter_of (to_z-of_z w64 v fits));
     }

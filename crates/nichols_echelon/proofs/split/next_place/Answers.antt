@@ -9,12 +9,12 @@ use Rattle.nichols_echelon.specs.Sweep.{IsSwept, IsTraced}
 use Rattle.nichols_echelon.proofs.Settling.{kept_whole, kept_left, spent, closed_empty}
 use Rattle.nichols_echelon.proofs.split.next_place.Goals as goal
 
-pub add_scaled-requires-clause-factor : goal.add_scaled-requires-clause-factor
-add_scaled-requires-clause-factor c = one_is_element c.args.field c.modulus-modulus.ensures.field
+pub add-requires-clause-factor : goal.add-requires-clause-factor
+add-requires-clause-factor c = one_is_element c.args.field c.modulus-modulus.ensures.field
 
 pub returns-in-Some-clause-settled : goal.returns-in-Some-clause-settled
 returns-in-Some-clause-settled c =
-    kept_whole c.args.field c.modulus-modulus.ensures.field c.args.rows.now.rows c.args.echelon.now c.claim.new.self c.requires.echelon c.row-row.result.now (c.row-row.ensures ∙ ap (row_at c.args.rows.now.rows) (sym c.requires.next))
+    kept_whole c.args.field c.modulus-modulus.ensures.field c.args.rows.now c.args.echelon.now c.claim.new.self c.requires.echelon (row_at c.args.rows.now c.args.position) (ap (row_at c.args.rows.now) (sym c.requires.next))
     c.requires.shape c.requires.elements c.requires.below c.in-Some.ensures.0.0 c.in-Some.last c.minus_inverse.result c.in-Some.ensures.0.1
     (ap (λ (ps : List (Option ℕ)). pivot_at ps c.in-Some.last.column) (sym c.as_slice.ensures.value) ∙ c.in-Some.ensures.1) c.minus_inverse.ensures.element
     (ap (λ (d : Cell). times c.args.field d.coefficient c.minus_inverse.result) (sym c.last.view_is) ∙ c.minus_inverse.ensures.inverse)
@@ -24,10 +24,10 @@ returns-in-Some-clause-settled c =
 
 pub returns-in-Some-last-clause-settled : goal.returns-in-Some-last-clause-settled
 returns-in-Some-last-clause-settled c =
-    kept_left c.args.field c.modulus-modulus.ensures.field c.args.rows.now.rows c.args.echelon.now c.claim-in-Some-last.new.self c.requires.echelon c.row-row.result.now (c.row-row.ensures ∙ ap (row_at c.args.rows.now.rows) (sym c.requires.next))
-    c.args.sums.now c.add_scaled.new.self c.swept.new.sums c.requires.zero.0 c.add_scaled.ensures.value c.in_ok-last.field-0.steps.items c.in-Some-last.last c.minus_inverse-in-Some-last.result
-    c.in_ok-drain_into-in-Some-last.ensures.row.cells (subst (λ (o : Option Cell). IsSwept c.args.field (kept_rows c.args.rows.now.rows c.args.echelon.now.left.rows) c.args.echelon.now.pivots.items (length c.args.echelon.now.left.rows) c.add_scaled.new.self c.swept.new.sums o c.in_ok-last.field-0.steps.items) c.in-Some-last.is c.in_ok-last.ensures.swept)
-    (c.swept.ensures.width ∙ c.add_scaled.ensures.width ∙ c.requires.width.0)
+    kept_left c.args.field c.modulus-modulus.ensures.field c.args.rows.now c.args.echelon.now c.claim-in-Some-last.new.self c.requires.echelon (row_at c.args.rows.now c.args.position) (ap (row_at c.args.rows.now) (sym c.requires.next))
+    c.args.sums.now c.add.new.sums c.swept.new.sums c.requires.zero.0 c.add.ensures.value c.in_ok-last.field-0.steps.items c.in-Some-last.last c.minus_inverse-in-Some-last.result
+    c.in_ok-drain_into-in-Some-last.ensures.row.cells (subst (λ (o : Option Cell). IsSwept c.args.field (kept_rows c.args.rows.now c.args.echelon.now.left.rows) c.args.echelon.now.pivots.items (length c.args.echelon.now.left.rows) c.add.new.sums c.swept.new.sums o c.in_ok-last.field-0.steps.items) c.in-Some-last.is c.in_ok-last.ensures.swept)
+    (c.swept.ensures.width ∙ c.add.ensures.width ∙ c.requires.width.0)
     c.in_ok-drain_into-in-Some-last.ensures.row.sums.row c.in_ok-drain_into-in-Some-last.ensures.row.sums.elements c.in_ok-drain_into-in-Some-last.ensures.row.sums.below c.in_ok-drain_into-in-Some-last.ensures.row.sums.entries
     c.minus_inverse-in-Some-last.ensures.element (ap (λ (d : Cell). times c.args.field d.coefficient c.minus_inverse-in-Some-last.result) (sym c.last-in-Some-last.view_is) ∙ c.minus_inverse-in-Some-last.ensures.inverse)
     (c.in_ok-claim-in-Some-last.ensures.rows.0 ∙ c.in_ok-drain_into-in-Some-last.ensures.row.closed)
@@ -38,11 +38,11 @@ returns-in-Some-last-clause-settled c =
 
 pub returns-clause-settled : goal.returns-clause-settled
 returns-clause-settled c =
-    spent c.args.field c.modulus-modulus.ensures.field c.args.rows.now.rows c.args.echelon.now
+    spent c.args.field c.modulus-modulus.ensures.field c.args.rows.now c.args.echelon.now
     (record { left = c.close-in-None.new.self; steps = c.close-in-None-2.new.self; factors = c.push.new.self; pivots = c.args.echelon.now.pivots })
-    c.requires.echelon c.row-row.result.now (c.row-row.ensures ∙ ap (row_at c.args.rows.now.rows) (sym c.requires.next))
-    c.args.sums.now c.add_scaled.new.self c.swept.new.sums c.requires.zero.0 c.add_scaled.ensures.value c.in_ok-last.field-0.steps.items c.of.result
-    (subst (λ (o : Option Cell). IsSwept c.args.field (kept_rows c.args.rows.now.rows c.args.echelon.now.left.rows) c.args.echelon.now.pivots.items (length c.args.echelon.now.left.rows) c.add_scaled.new.self c.swept.new.sums o c.in_ok-last.field-0.steps.items) c.in-None.is c.in_ok-last.ensures.swept)
+    c.requires.echelon (row_at c.args.rows.now c.args.position) (ap (row_at c.args.rows.now) (sym c.requires.next))
+    c.args.sums.now c.add.new.sums c.swept.new.sums c.requires.zero.0 c.add.ensures.value c.in_ok-last.field-0.steps.items c.of.result
+    (subst (λ (o : Option Cell). IsSwept c.args.field (kept_rows c.args.rows.now c.args.echelon.now.left.rows) c.args.echelon.now.pivots.items (length c.args.echelon.now.left.rows) c.add.new.sums c.swept.new.sums o c.in_ok-last.field-0.steps.items) c.in-None.is c.in_ok-last.ensures.swept)
     (subst (λ (cs : List Cell). IsTraced c.args.field c.args.echelon.now.pivots.items c.args.echelon.now.steps.rows c.in_ok-last.field-0.steps.items cs) (sym c.of.ensures)
     (subst (λ (ss : List Cell). IsTraced c.args.field c.args.echelon.now.pivots.items c.args.echelon.now.steps.rows ss c.in_ok-combination-in-None.combination.items) c.as_slice-in-None.ensures.value c.in_ok-combination-in-None.ensures.traced))
     (closed_empty c.args.echelon.now.left c.close-in-None.new.self c.requires.begun.0 c.in_ok-close-in-None.ensures.ok)

@@ -2,6 +2,7 @@ use Rattle.std.proofs.Common.{◌≡◌, suc, ◌+◌, Some, sym, ◌∙◌, ap,
 use Rattle.nichols_graded.specs.declared.ends.Stop.TheVariants.{Wide}
 use Rattle.nichols_graded.proofs.EndLaws.{stop_by_limit, stop_by_products}
 use Rattle.nichols_graded.proofs.DegreeStops.{stop_is}
+use Rattle.nichols_graded.proofs.Listed.{open_one}
 use Rattle.nichols_graded.proofs.ahead.look_ahead.Goals as goal
 
 pub returns-then-degree_limit-above : goal.returns-then-degree_limit-above
@@ -19,14 +20,12 @@ pub returns-in-Some : goal.returns-in-Some
 returns-in-Some c =
     let t = c.if-degree_limit-above.false in
     let next = c.in-Ok.ensures c.args.degree c.requires.products in
-    let same : c.args.degree + 1 ≡ suc c.args.degree = omega arith in
-    sym (c.in-Some.ensures ∙ stop_is c.args.braid.now c.field-braid.ensures.braid c.args.degree_limit c.args.rows_limit c.args.degree (c.args.degree + 1) c.in-Ok.next c.as_slice.result.now same t next.0 next.1 (c.as_slice.ensures.value ∙ c.in_ok-counts.ensures))
+    sym (c.in-Some.ensures ∙ stop_is c.args.braid.now c.field-braid.ensures.braid c.args.degree_limit c.args.rows_limit c.args.degree c.in-Ok.next (omega (arith, t)) next.0 next.1)
 
-pub returns-in-None : goal.returns-in-None
-returns-in-None c =
+pub returns-in_ok-vec-in-None : goal.returns-in_ok-vec-in-None
+returns-in_ok-vec-in-None c =
     let t = c.if-degree_limit-above.false in
-    let next = c.in-Ok.ensures c.args.degree c.requires.products in
-    let same : c.args.degree + 1 ≡ suc c.args.degree = omega arith in (
-      sym (c.in-None.ensures ∙ stop_is c.args.braid.now c.field-braid.ensures.braid c.args.degree_limit c.args.rows_limit c.args.degree (c.args.degree + 1) c.in-Ok.next c.as_slice.result.now same t next.0 next.1 (c.as_slice.ensures.value ∙ c.in_ok-counts.ensures)),
-      next.0,
+    let next = c.in-Ok.ensures c.args.degree c.requires.products in (
+      sym (c.in-None.ensures ∙ stop_is c.args.braid.now c.field-braid.ensures.braid c.args.degree_limit c.args.rows_limit c.args.degree c.in-Ok.next (omega (arith, t)) next.0 next.1),
+      open_one c.args.braid.now c.args.degree_limit (suc c.args.degree) c.in_ok-vec-in-None.field-0.items c.in-Ok.next c.in_ok-vec-in-None.ensures.items (omega (arith, t)) next.0 next.1,
     )

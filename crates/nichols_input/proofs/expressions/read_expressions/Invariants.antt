@@ -9,7 +9,7 @@ use Rattle.nichols_tensor.specs.Words.{IsOver}
 
 abbrev pub invariant-loop-text : goal.invariant-loop-text
 invariant-loop-text l =
-    (read_before (λ text. text.now) l.braid l.texts l.values.items l.text-index ≡ values_from l.braid 1 (map (λ text. text.now) l.texts)) ×
+    (read_before (λ text. text.now) l.braid l.order l.texts l.values.items l.text-index ≡ values_from l.braid l.order 1 (map (λ text. text.now) l.texts)) ×
     (length l.values.items ≤ EXPRESSION_LIMIT) ×
     AllByRecursion (IsOver l.braid.letters) l.values.items ×
     AllByRecursion (AllElements l.braid.field) l.values.items

@@ -1,7 +1,7 @@
 use Rattle.std.proofs.Common.{◌<◌, length, refl, ◌∙◌, ap, arith}
 use Rattle.nichols_tensor.specs.Combination.{Term}
 use Rattle.nichols_tensor.specs.Parts.{longest}
-use Rattle.nichols_reduce.proofs.Longest.{longest_next}
+use Rattle.nichols_reduce.proofs.LongestWords.{longest_next}
 use Rattle.nichols_reduce.proofs.parts.longest.Goals as goal
 
 pub loop-term-init : goal.loop-term-init

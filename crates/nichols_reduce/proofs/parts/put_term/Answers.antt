@@ -1,12 +1,12 @@
 use Rattle.std.proofs.Common.{◌≡◌, ◌++◌, ◌∙◌, ap, refl, sym, subst, length}
-use Rattle.nichols_tensor.specs.Combination.{HasSameValues, Term, scalar_multiple}
+use Rattle.nichols_tensor.specs.Combination.{HasSameValues, Term, scalar_multiple, single}
 use Rattle.nichols_tensor.specs.Words.{IsWordOver}
 use Rattle.nichols_braid.specs.Braid.{IsBraid}
 use Rattle.nichols_braid.specs.Product.{product_of}
 use Rattle.nichols_value.specs.Block.{block_basis}
-use Rattle.nichols_reduce.specs.Forms.{form_of}
+use Rattle.nichols_memo.specs.Forms.{form_of}
 use Rattle.nichols_reduce.specs.Sums.{combination_of}
-use Rattle.nichols_reduce.proofs.PartForms.{elements_with, same_terms, values_of_form}
+use Rattle.nichols_reduce.proofs.PartForms.{elements_with, same_terms, values_of_sums}
 use Rattle.nichols_reduce.proofs.WordForms.{word_product, words_of_rule}
 use Rattle.nichols_reduce.proofs.parts.put_term.Goals as goal
 
@@ -25,7 +25,7 @@ returns-clause-values c =
     let words : c.basis.result.now ≡ block_basis c.args.levels.now.braid (length c.term.inside.word) (product_of c.args.levels.now.braid c.term.inside.word) =
     c.basis.ensures.same ∙ words_of_rule c.args.levels.now.braid c.term.inside.word c.len.result c.in_ok-product.product c.block_rule-rule.result.now c.len.ensures.value c.in_ok-product.ensures.product c.block_rule-rule.ensures in
     subst (λ (t : Term). HasSameValues c.args.levels.now.braid.field c.put_terms.new.terms.items (c.args.sum.now.items ++ scalar_multiple c.args.levels.now.braid.field t.coefficient (form_of c.args.levels.now.braid t.word))) c.term.view_is
-    (values_of_form c.args.levels.now.braid is c.term.inside.word c.term.inside.coefficient c.put_form.new.form.items c.args.sum.now.items c.put_terms.new.terms.items c.in_ok-product.ensures.form
+    (values_of_sums c.args.levels.now.braid is (length c.term.inside.word) (product_of c.args.levels.now.braid c.term.inside.word) (single c.term.inside.word) c.term.inside.coefficient c.put_form.new.form.items c.args.sum.now.items c.put_terms.new.terms.items c.in_ok-product.ensures.form
     (same_terms c.args.levels.now.braid.field c.field-field.result (c.field-field.ensures.field ∙ ap (λ b. b.field) c.braid.ensures) (block_basis c.args.levels.now.braid (length c.term.inside.word) (product_of c.args.levels.now.braid c.term.inside.word)) c.basis.result.now words
     c.as_slice.result.now c.put_form.new.form.items c.as_slice.ensures.value c.term.inside.coefficient c.args.sum.now.items c.put_terms.new.terms.items c.in_ok-put_terms.ensures))
 

@@ -15,5 +15,5 @@ unfolding degree_due
 returns-clause-piece g c =
     let braid = c.args.graded.now.braid in
     let m = c.args.m in
-    let text : c.as_slice.result.now ≡ degree_piece m (basis is_in_kernel braid m) (relations is_in_kernel braid m) c.args.brief = c.as_slice.ensures.value ∙ c.in_ok-text.ensures in
+    let text : c.as_slice.result.now ≡ degree_piece braid.field c.args.order.now m (basis is_in_kernel braid m) (relations is_in_kernel braid m) c.args.brief = c.as_slice.ensures.value ∙ c.in_ok-text.ensures in
     rw (← text) c.put.ensures.piece

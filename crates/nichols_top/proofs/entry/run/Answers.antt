@@ -23,12 +23,16 @@ returns g c =
     let read : (s : Status) → c.put_report-report.result ≡ Ok s → IfSome (read_limit words) (λ limit. IsReadFor (g.S.Source.left c.args.source.now) (g.S.Source.left c.put_report-report.new.source) limit s) =
     λ s is. IfSome_then (read_limit words) c.put_report-report.ensures.read_to_end (λ limit h. IfOk-at_ok (IsReadFor (g.S.Source.left c.args.source.now) (g.S.Source.left c.put_report-report.new.source) limit) is h) in
     record {
-      report = (told.0, told.1, subst (λ k. EndsAs (due words told.0) (Rose (g.S.Source.faults c.args.source.now) (g.S.Source.faults c.put_report-report.new.source)) (sink_seen g.K.Sink.taken g.K.Sink.faults c.args.sink.now) (sink_seen g.K.Sink.taken g.K.Sink.faults k) c.code.result) (search rules) ends);
-      complete = λ still kept. (
+      report = (
         told.0,
         told.1,
-        subst (λ k. IsComplete (due words told.0) (sink_seen g.K.Sink.taken g.K.Sink.faults c.args.sink.now) (sink_seen g.K.Sink.taken g.K.Sink.faults k) c.code.result) (search rules)
+        subst (λ k. EndsAs (due words told.0) (Rose (g.S.Source.faults c.args.source.now) (g.S.Source.faults c.put_report-report.new.source)) (sink_seen g.K.Sink.taken g.K.Sink.faults c.args.sink.now) (sink_seen g.K.Sink.taken g.K.Sink.faults k) c.code.result) (search rules) ends,
+        λ still kept. subst (λ k. IsComplete (due words told.0) (sink_seen g.K.Sink.taken g.K.Sink.faults c.args.sink.now) (sink_seen g.K.Sink.taken g.K.Sink.faults k) c.code.result) (search rules)
             (complete_unless ends still (subst (λ k. ¬ Rose (g.K.Sink.faults c.args.sink.now) (g.K.Sink.faults k)) (search rules) kept)),
+        λ h. elim h [
+          | inl e ↦ told.2.3 (inl (answered_at Complete c.conclude.ensures.status (sym c.code.ensures ∙ e) (λ x. cc) (λ x. cc)))
+          | inr e ↦ told.2.3 (inr (answered_at Stopped c.conclude.ensures.status (sym c.code.ensures ∙ e) (λ x. cc) (λ x. cc)))
+        ],
       );
       usage = λ none. elim (answered_or_broken Usage c.conclude.ensures.status (c.put_report-report.ensures.usage none)) [
         | inl e ↦ inl (c.code.ensures ∙ e)

@@ -1,6 +1,7 @@
 use Rattle.std.proofs.Common.{◌∙◌}
 use Rattle.std.proofs.lemmas.Result.{err_from_is_err_and}
 use Rattle.nichols_top.specs.Algebra.{scope_of}
+use Rattle.nichols_top.proofs.CountedBlocks.{counted_all}
 use Rattle.nichols_top.proofs.Expressions.{reduce_first, reduce_breaks, reduce_whole}
 use Rattle.nichols_top.proofs.Taking.{fault_passed}
 use Rattle.nichols_top.proofs.reduce.put_reduce.Goals as goal
@@ -8,13 +9,13 @@ use Rattle.nichols_top.proofs.reduce.put_reduce.Goals as goal
 pub returns-in_err-ended-clause-report : goal.returns-in_err-ended-clause-report
 returns-in_err-ended-clause-report g c =
     let p = err_from_is_err_and c.from_residual.result c.from_residual.ensures.1 in
-    rw (p.1, p.2, ← c.document.view_is) (reduce_first (record { braid = c.document.inside.braid; expressions = c.document.inside.expressions.items }) (scope_of c.args.options) c.in_err-ended.ensures.pieces)
+    rw (p.1, p.2, ← c.document.view_is) (reduce_first (record { braid = c.document.inside.braid; order = c.document.inside.order; expressions = c.document.inside.expressions.items }) (scope_of c.args.options) c.in_err-ended.ensures.pieces)
 
 pub returns-in_err-put_forms-clause-report : goal.returns-in_err-put_forms-clause-report
 returns-in_err-put_forms-clause-report g c =
     let p = err_from_is_err_and c.from_residual-in_err-put_forms.result c.from_residual-in_err-put_forms.ensures.1 in
     rw (p.1, p.2, ← c.document.view_is)
-    (reduce_breaks (record { braid = c.document.inside.braid; expressions = c.document.inside.expressions.items }) (scope_of c.args.options) c.in_ok-ended.ended.graded c.in_ok-ended.ended.stop c.in_ok-ended.ensures.ended c.in_ok-ended.ensures.pieces
+    (reduce_breaks (record { braid = c.document.inside.braid; order = c.document.inside.order; expressions = c.document.inside.expressions.items }) (scope_of c.args.options) c.in_ok-ended.ended.graded c.in_ok-ended.ended.stop c.in_ok-ended.ensures.ended c.in_ok-ended.ensures.pieces
     (rw (← c.as_slice.ensures.value) c.in_err-put_forms.ensures.pieces))
 
 pub returns-in_err-put_forms-clause-stopped : goal.returns-in_err-put_forms-clause-stopped
@@ -26,5 +27,10 @@ returns-in_err-put_forms-clause-stopped g c = λ e.
 pub returns-clause-report : goal.returns-clause-report
 returns-clause-report g c =
     rw (← c.document.view_is)
-    (reduce_whole (record { braid = c.document.inside.braid; expressions = c.document.inside.expressions.items }) (scope_of c.args.options) c.in_ok-ended.ended.graded c.in_ok-ended.ended.stop c.status_of.result c.in_ok-ended.ensures.ended c.status_of.ensures c.in_ok-ended.ensures.pieces
+    (reduce_whole (record { braid = c.document.inside.braid; order = c.document.inside.order; expressions = c.document.inside.expressions.items }) (scope_of c.args.options) c.in_ok-ended.ended.graded c.in_ok-ended.ended.stop c.status_of.result c.in_ok-ended.ensures.ended c.status_of.ensures c.in_ok-ended.ensures.pieces
     (rw (← c.as_slice.ensures.value) c.in_ok-put_forms.ensures.pieces))
+
+pub returns-clause-counted : goal.returns-clause-counted
+returns-clause-counted g c =
+    rw (← c.document.view_is)
+    (counted_all c.document.inside.braid (scope_of c.args.options) c.in_ok-ended.ended.graded.last (g.G.Gate.count c.args.gate.now) (g.G.Gate.count c.put_pieces.new.gate) c.in_ok-ended.ensures.ended.counted c.in_ok-ended.ensures.counted)

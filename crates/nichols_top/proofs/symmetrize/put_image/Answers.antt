@@ -15,5 +15,5 @@ returns-in_err-text-clause-piece g c = let p = err_from_is_err_and c.from_residu
 pub returns-clause-piece : goal.returns-clause-piece
 unfolding image_due
 returns-clause-piece g c =
-    rw (← (c.as_slice.ensures.value ∙ c.in_ok-text.ensures ∙ ap (image_line c.args.number) (image_is c.args.braid.now c.args.expression.now c.in_ok-image.image c.field-field.ensures.braid c.in_ok-image.ensures.value c.in_ok-image.ensures.shape c.in_ok-image.ensures.elements)))
+    rw (← (c.as_slice.ensures.value ∙ c.in_ok-text.ensures ∙ ap (λ k. image_line k c.args.order.now c.args.number c.in_ok-image.image) c.field-field.ensures.field ∙ ap (image_line c.args.braid.now.field c.args.order.now c.args.number) (image_is c.args.braid.now c.args.expression.now c.in_ok-image.image c.field-field.ensures.braid c.in_ok-image.ensures.value c.in_ok-image.ensures.shape c.in_ok-image.ensures.elements)))
     c.put.ensures.piece

@@ -10,5 +10,5 @@ abbrev pub invariant-loop-expression : goal.invariant-loop-expression
 invariant-loop-expression g l = record {
   same_sink : l.out.sink.ghost_name ≡ l.fn.out.sink.ghost_name;
   number : l.number ≡ 1 + l.expression-index;
-  taken : HasTaken (numbered_pieces (image_due l.braid) 1 l.expressions) (numbered_from (image_due l.braid) 1 l.expressions l.expression-index) (writer_seen g.K.Sink.taken g.K.Sink.faults l.fn.out) (writer_seen g.K.Sink.taken g.K.Sink.faults l.out);
+  taken : HasTaken (numbered_pieces (image_due l.braid l.order) 1 l.expressions) (numbered_from (image_due l.braid l.order) 1 l.expressions l.expression-index) (writer_seen g.K.Sink.taken g.K.Sink.faults l.fn.out) (writer_seen g.K.Sink.taken g.K.Sink.faults l.out);
 }

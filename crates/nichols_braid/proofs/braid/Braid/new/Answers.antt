@@ -26,35 +26,35 @@ pub zero_fault-requires : goal.zero_fault-requires
 zero_fault-requires c =
     let read =
     are_read c.args.field (map (λ row. row.items) c.args.rack.now) (given_scalars c.args.scalars.now) c.in_ok-table.table c.table.inside.letters c.table.inside.entries.items c.in_ok-cocycle.cocycle.items c.fault.result c.fault-2.result (record { value = c.in_ok-table.ensures.value; fault = c.in_ok-table.ensures.fault }) c.table.view_is
-    c.fault.ensures c.in_default.is c.fault-2.ensures c.in_default-fault.is c.in_ok-cocycle.ensures.value c.in_ok-cocycle.ensures.fault in
+    c.fault.ensures c.in_default.is c.fault-2.ensures c.in_default-fault.is c.in_ok-cocycle.ensures.value c.in_ok-cocycle.ensures.fault c.requires in
     rw c.as_slice.ensures.value (scalars_are_table c.args.field c.modulus-modulus.ensures.field (map (λ row. row.items) c.args.rack.now) (given_scalars c.args.scalars.now) c.in_ok-table.table c.table.inside.letters c.in_ok-cocycle.cocycle.items read)
 
 pub returns-in-Some-zero_fault : goal.returns-in-Some-zero_fault
 returns-in-Some-zero_fault c =
     let read =
     are_read c.args.field (map (λ row. row.items) c.args.rack.now) (given_scalars c.args.scalars.now) c.in_ok-table.table c.table.inside.letters c.table.inside.entries.items c.in_ok-cocycle.cocycle.items c.fault.result c.fault-2.result (record { value = c.in_ok-table.ensures.value; fault = c.in_ok-table.ensures.fault }) c.table.view_is
-    c.fault.ensures c.in_default.is c.fault-2.ensures c.in_default-fault.is c.in_ok-cocycle.ensures.value c.in_ok-cocycle.ensures.fault in
+    c.fault.ensures c.in_default.is c.fault-2.ensures c.in_default-fault.is c.in_ok-cocycle.ensures.value c.in_ok-cocycle.ensures.fault c.requires in
     names_zero c.args.field (map (λ row. row.items) c.args.rack.now) (given_scalars c.args.scalars.now) c.in_ok-table.table c.table.inside.letters c.in_ok-cocycle.cocycle.items c.in-Some-zero_fault.fault read (rw c.as_slice.ensures.value at c.in-Some-zero_fault.ensures)
 
 pub cocycle_fault-requires : goal.cocycle_fault-requires
 cocycle_fault-requires c =
     let read =
     are_read c.args.field (map (λ row. row.items) c.args.rack.now) (given_scalars c.args.scalars.now) c.in_ok-table.table c.table.inside.letters c.table.inside.entries.items c.in_ok-cocycle.cocycle.items c.fault.result c.fault-2.result (record { value = c.in_ok-table.ensures.value; fault = c.in_ok-table.ensures.fault }) c.table.view_is
-    c.fault.ensures c.in_default.is c.fault-2.ensures c.in_default-fault.is c.in_ok-cocycle.ensures.value c.in_ok-cocycle.ensures.fault in
+    c.fault.ensures c.in_default.is c.fault-2.ensures c.in_default-fault.is c.in_ok-cocycle.ensures.value c.in_ok-cocycle.ensures.fault c.requires in
     rw c.as_slice-2.ensures.value (scalars_are_table c.args.field c.modulus-modulus.ensures.field (map (λ row. row.items) c.args.rack.now) (given_scalars c.args.scalars.now) c.in_ok-table.table c.table.inside.letters c.in_ok-cocycle.cocycle.items read)
 
 pub returns-in-Some-cocycle_fault : goal.returns-in-Some-cocycle_fault
 returns-in-Some-cocycle_fault c =
     let read =
     are_read c.args.field (map (λ row. row.items) c.args.rack.now) (given_scalars c.args.scalars.now) c.in_ok-table.table c.table.inside.letters c.table.inside.entries.items c.in_ok-cocycle.cocycle.items c.fault.result c.fault-2.result (record { value = c.in_ok-table.ensures.value; fault = c.in_ok-table.ensures.fault }) c.table.view_is
-    c.fault.ensures c.in_default.is c.fault-2.ensures c.in_default-fault.is c.in_ok-cocycle.ensures.value c.in_ok-cocycle.ensures.fault in
+    c.fault.ensures c.in_default.is c.fault-2.ensures c.in_default-fault.is c.in_ok-cocycle.ensures.value c.in_ok-cocycle.ensures.fault c.requires in
     names_law c.args.field (map (λ row. row.items) c.args.rack.now) (given_scalars c.args.scalars.now) c.in_ok-table.table c.table.inside.letters c.in_ok-cocycle.cocycle.items c.zero_fault.result c.in-Some-cocycle_fault.fault read (rw c.as_slice.ensures.value at c.zero_fault.ensures) c.in_default-zero_fault.is (rw c.as_slice-2.ensures.value at c.in-Some-cocycle_fault.ensures)
 
 pub invariant_of-result : goal.invariant_of-result
 invariant_of-result c =
     let read =
     are_read c.args.field (map (λ row. row.items) c.args.rack.now) (given_scalars c.args.scalars.now) c.in_ok-table.table c.table.inside.letters c.table.inside.entries.items c.in_ok-cocycle.cocycle.items c.fault.result c.fault-2.result (record { value = c.in_ok-table.ensures.value; fault = c.in_ok-table.ensures.fault }) c.table.view_is
-    c.fault.ensures c.in_default.is c.fault-2.ensures c.in_default-fault.is c.in_ok-cocycle.ensures.value c.in_ok-cocycle.ensures.fault in
+    c.fault.ensures c.in_default.is c.fault-2.ensures c.in_default-fault.is c.in_ok-cocycle.ensures.value c.in_ok-cocycle.ensures.fault c.requires in
     is_braid c.args.field c.modulus-modulus.ensures.field (map (λ row. row.items) c.args.rack.now) (given_scalars c.args.scalars.now) c.in_ok-table.table c.table.inside.letters c.table.inside.entries.items c.in_ok-cocycle.cocycle.items read c.table.view_is
     (record { first = c.zero_fault.result; second = c.cocycle_fault.result; zero = rw c.as_slice.ensures.value at c.zero_fault.ensures; none = c.in_default-zero_fault.is; law = rw c.as_slice-2.ensures.value at c.cocycle_fault.ensures; still = c.in_default-cocycle_fault.is })
 
@@ -62,6 +62,6 @@ pub returns : goal.returns
 returns c =
     let read =
     are_read c.args.field (map (λ row. row.items) c.args.rack.now) (given_scalars c.args.scalars.now) c.in_ok-table.table c.table.inside.letters c.table.inside.entries.items c.in_ok-cocycle.cocycle.items c.fault.result c.fault-2.result (record { value = c.in_ok-table.ensures.value; fault = c.in_ok-table.ensures.fault }) c.table.view_is
-    c.fault.ensures c.in_default.is c.fault-2.ensures c.in_default-fault.is c.in_ok-cocycle.ensures.value c.in_ok-cocycle.ensures.fault in
+    c.fault.ensures c.in_default.is c.fault-2.ensures c.in_default-fault.is c.in_ok-cocycle.ensures.value c.in_ok-cocycle.ensures.fault c.requires in
     is_made c.args.field (map (λ row. row.items) c.args.rack.now) (given_scalars c.args.scalars.now) c.in_ok-table.table c.table.inside.letters c.table.inside.entries.items c.in_ok-cocycle.cocycle.items read c.table.view_is
     (record { first = c.zero_fault.result; second = c.cocycle_fault.result; zero = rw c.as_slice.ensures.value at c.zero_fault.ensures; none = c.in_default-zero_fault.is; law = rw c.as_slice-2.ensures.value at c.cocycle_fault.ensures; still = c.in_default-cocycle_fault.is })

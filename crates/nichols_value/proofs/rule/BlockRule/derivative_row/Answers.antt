@@ -17,7 +17,7 @@ found : (inside : Inside) (upper : Upper) (now : PlainRule) (a k : ℕ) → the_
     → k < length (derivs_in now a) → IsRowOfEach inside.below.items upper.derivs.items (a - 1) k
 found inside upper now a k view holds is place =
     let shape = rw is at holds.1 in
-    row_of_each inside.below.items upper.derivs.items (a - 1) k shape.derivs_forms (rw (forms_are inside upper now a view is) at place)
+    row_of_each inside.below.items upper.derivs.items (a - 1) k shape.0.derivs_forms (rw (forms_are inside upper now a view is) at place)
 
 pub row_of-requires-clause-most : goal.row_of-requires-clause-most
 row_of-requires-clause-most c =

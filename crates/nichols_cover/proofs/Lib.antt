@@ -1,0 +1,13 @@
+pub mod InIdeal
+pub mod Shapes
+pub mod ProductSpans
+pub mod Codimension
+pub mod Quadratic
+pub mod Dimensions
+pub mod Units
+pub mod ProductSums
+pub mod ProductRows
+pub mod Forms
+pub mod Levels
+pub mod NextLevel
+pub mod Covered

@@ -1,5 +1,0 @@
-use Rattle.nichols_echelon.specs.Cells.{AllElements}
-use Rattle.nichols_echelon.proofs.tests.row_of.Given as goal
-
-abbrev pub invariant-loop-place : goal.invariant-loop-place
-invariant-loop-place l = AllElements l.field l.cells.items

@@ -1,0 +1,6 @@
+mod Kept
+mod MemoLaws
+mod Hashing
+mod Telling
+mod LeastForm
+mod WorkedLimits

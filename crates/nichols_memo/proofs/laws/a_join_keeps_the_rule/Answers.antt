@@ -1,0 +1,5 @@
+use Rattle.nichols_memo.proofs.MemoLaws.{a_join_keeps_the_rule}
+use Rattle.nichols_memo.proofs.laws.a_join_keeps_the_rule.Goals as goal
+
+pub returns : goal.returns
+returns c = a_join_keeps_the_rule

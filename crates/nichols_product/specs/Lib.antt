@@ -1,0 +1,8 @@
+-- what public contracts cite
+pub mod Products
+-- the statements of the laws
+pub mod Laws
+-- what the calls cite
+pub mod WordProducts
+-- what the crate's own functions cite
+pub mod Parts
