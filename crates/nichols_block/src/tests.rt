@@ -312,7 +312,7 @@ fn crosses<T: Send + Sync>(_value: &T) -> bool {
 }
 
 #[test]
-fn values_cross_threads(rt: HostRuntime) -> Result<(), Fail> {
+fn values_and_levels_cross_threads(rt: HostRuntime) -> Result<(), Fail> {
     let alloc = rt.alloc();
     let braid = three_transpositions(alloc)?;
     let values = two_degrees(alloc, &braid, 100)?;
@@ -322,5 +322,7 @@ fn values_cross_threads(rt: HostRuntime) -> Result<(), Fail> {
             assert!(rt; crosses(own));
         }
     }
+    let levels = Levels::start(alloc, braid)?;
+    assert!(rt; crosses(&levels));
     Ok(())
 }

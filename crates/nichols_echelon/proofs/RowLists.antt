@@ -1,6 +1,6 @@
 -- Rows in one flat list.
-use Rattle.std.proofs.Common.{◌≡◌, ℕ, zero, suc, ◌-◌, ◌<◌, ◌≤◌, List, [], ◌∷◌, ◌++◌, length, get_or, take, drop, refl, ap, ap₂, ◌∙◌, arith, length-drop, take_all}
-use Rattle.std.proofs.lemmas.List.{take-append-le, drop-append-le, drop_all}
+use Rattle.std.proofs.Common.{◌≡◌, ℕ, zero, suc, ◌-◌, ◌<◌, ◌≤◌, List, [], ◌∷◌, ◌++◌, length, get_or, take, drop, refl, ap, ap₂, ◌∙◌, arith, length-drop, length-take-le, sym, take_all}
+use Rattle.std.proofs.lemmas.List.{take-append-drop, take-append-le, drop-append-le, drop_all}
 use Rattle.nichols_echelon.specs.Cells.{Cell}
 use Rattle.nichols_echelon.specs.Rows.{RowsValue, rows_of, rows_from, end_from, cells_between, IsStepped}
 
@@ -91,3 +91,59 @@ row_order ends n k start e h s =
 pub start_at : (ends : List ℕ) (k : ℕ) → 0 < k → get_or ends (k - 1) 0 ≡ get_or (0 ∷ ends) k 0
 start_at ends zero h = absurd (omega arith)
 start_at ends (suc k) h = let e : suc k - 1 ≡ k = omega arith in ap (λ n. get_or ends n 0) e
+
+-- the closed rows end within themselves
+stepped_within : (s : ℕ) (ends : List ℕ) (n : ℕ) → IsStepped s ends n → IsStepped s ends (end_from s ends)
+unfolding end_from
+stepped_within s [] n h = omega arith
+stepped_within s (e ∷ ends) n h = (h.0, stepped_within e ends n h.1)
+
+-- the cells without the last ones
+abbrev pub without_last : List Cell → ℕ → List Cell
+without_last cells n = take (length cells - n) cells
+
+-- where the open row is cut off, the closed ones stay
+pub rows_of_cut : (ends : List ℕ) (cells : List Cell) (n : ℕ) → IsStepped 0 ends (length cells) → n ≡ length (drop (end_from 0 ends) cells) →
+    (n ≤ length cells) × (IsStepped 0 ends (length (without_last cells n)) × (rows_of ends (without_last cells n) ≡ record { rows = rows_from 0 ends cells; begun = [] }))
+unfolding value
+rows_of_cut ends cells n stepped is_n = (omega (is_n, length-drop e cells, arith), (inside, ap₂ (λ (rows : List (List Cell)) (row : List Cell). value rows row) same none))
+  where
+    e : ℕ
+    e = end_from 0 ends
+
+    within : (0 ≤ e) × (e ≤ length cells)
+    within = stepped_start 0 ends (length cells) stepped
+
+    kept : List Cell
+    kept = take (length cells - n) cells
+
+    is_kept : length kept ≡ e
+    is_kept = length-take-le (length cells - n) cells (omega arith) ∙ omega (is_n, length-drop e cells, within.1, arith)
+
+    inside : IsStepped 0 ends (length kept)
+    inside = stepped_more 0 ends e (length kept) (omega (arith, is_kept)) (stepped_within 0 ends (length cells) stepped)
+
+    same : rows_from 0 ends kept ≡ rows_from 0 ends cells
+    same = sym (rows_of_longer 0 ends kept (drop (length cells - n) cells) inside) ∙ ap (rows_from 0 ends) (take-append-drop (length cells - n) cells)
+
+    none : drop e kept ≡ []
+    none = drop_all e kept (omega (arith, is_kept))
+
+-- a row whose cells were put behind an open row with none, and cut off again
+pub cut_row : (ends : List ℕ) (cells more new : List Cell) (v : RowsValue) (ends-2 : List ℕ) (cells-2 : List Cell) → IsStepped 0 ends (length cells) → new ≡ cells ++ more → rows_of ends cells ≡ v → v.begun ≡ [] →
+    IsStepped 0 ends-2 (length cells-2) → rows_of ends-2 cells-2 ≡ rows_of ends new →
+    (length more ≤ length cells-2) × (IsStepped 0 ends-2 (length (without_last cells-2 (length more))) × (rows_of ends-2 (without_last cells-2 (length more)) ≡ v))
+unfolding value
+cut_row ends cells more new v ends-2 cells-2 stepped e view none stepped-2 same = (cut.0, (cut.1.0, cut.1.1 ∙ ap₂ (λ (rows : List (List Cell)) (row : List Cell). value rows row) rows (sym none)))
+  where
+    rows : rows_from 0 ends-2 cells-2 ≡ v.rows
+    rows = ap (λ (w : RowsValue). w.rows) same ∙ ap (rows_from 0 ends) e ∙ rows_of_longer 0 ends cells more stepped ∙ ap (λ (w : RowsValue). w.rows) view
+
+    begun : drop (end_from 0 ends-2) cells-2 ≡ more
+    begun =
+        ap (λ (w : RowsValue). w.begun) same ∙ ap (drop (end_from 0 ends)) e ∙ begun_of_longer 0 ends cells more stepped
+        ∙ ap (λ (w : RowsValue). w.begun ++ more) view ∙ ap (λ (cs : List Cell). cs ++ more) none
+
+    cut : (length more ≤ length cells-2)
+        × (IsStepped 0 ends-2 (length (without_last cells-2 (length more))) × (rows_of ends-2 (without_last cells-2 (length more)) ≡ record { rows = rows_from 0 ends-2 cells-2; begun = [] }))
+    cut = rows_of_cut ends-2 cells-2 (length more) stepped-2 (sym (ap length begun))

@@ -103,13 +103,18 @@ impl Rows {
 
     /// Closes a row of these cells, where the open row has none yet.
     ///
-    /// `AllocError` comes, too, where there are 2^32 cells or more. It says nothing of the open row.
+    /// `AllocError` comes, too, where there are 2^32 cells or more. It leaves all as it was.
     pub fn push_row(&mut self, cells: &[Cell]) -> Result<(), AllocError>
         requires { self.old.begun ≡ [] }
         ensures ok { OnOk result (self.new ≡ record { rows = self.old.rows ++ cells.now ∷ []; begun = [] }) }
-        ensures err { OnErr result (self.new.rows ≡ self.old.rows) }
+        ensures err { OnErr result (self.new ≡ self.old) }
     {
         self.cells.extend_from_slice(cells)?;
-        self.close()
+        if let Err(refused) = self.close() {
+            let kept = self.cells.len() - cells.len();
+            self.cells.truncate(kept);
+            return Err(refused);
+        }
+        Ok(())
     }
 }

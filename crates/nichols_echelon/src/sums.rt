@@ -183,7 +183,7 @@ impl Sums {
     /// Closes the open row, which has no cell yet, as the row of the sums: its cells are the places
     /// whose sum isn't 0. All sums are 0 again.
     ///
-    /// On an error the closed rows are the same, and of the sums nothing is said.
+    /// On an error the closed rows are the same; the sums are spent, and the open row may have cells.
     pub fn drain_into(&mut self, field: Field, rows: &mut Rows) -> Result<(), AllocError>
         requires { rows.old.begun ≡ [] }
         ensures zero { OnOk result (IsZero field self.new) }
