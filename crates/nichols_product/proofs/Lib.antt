@@ -5,4 +5,4 @@ pub mod PartTerms
 pub mod PartProducts
 pub mod RunningProducts
 pub mod AnsweredProducts
-mod AnswerLaws
+pub mod AnswerLaws

@@ -1,5 +1,5 @@
 -- What the laws of this crate say.
-use Rattle.std.specs.Prelude.{◌≡◌, ◌≢◌, ◌↔◌, ⊥, ℕ, ◌+◌, ◌<◌, List, [], length, slice_get, take, Some}
+use Rattle.std.specs.Prelude.{◌≡◌, ◌≢◌, ◌↔◌, ℕ, ◌+◌, ◌<◌, List, [], length, slice_get, take, Some}
 use Rattle.std.specs.List.{AllByRecursion, Contains}
 use Rattle.nichols_tensor.specs.Combination.{Combination, IsZero}
 use Rattle.nichols_tensor.specs.Product.{product, product_of}

@@ -23,7 +23,6 @@ pub fn answers_are_known()
 {}
 
 /// Of a list of factors there is an answer for each: that of the product of the factors up to it.
-#[tactic(auto, using(crate::proofs::AnswerLaws::answers_are_of_first_factors))]
 pub fn answers_are_of_first_factors()
     ensures { AnswersAreOfFirstFactors }
 {}
