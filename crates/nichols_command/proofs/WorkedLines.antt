@@ -6,7 +6,7 @@ use Rattle.nichols_command.specs.Texts.{texts_of}
 use Rattle.nichols_command.specs.Command.{command_of}
 use Rattle.nichols_command.specs.declared.command.Options.{Options}
 use Rattle.nichols_command.specs.declared.command.Command.TheVariants.{OnDocument, Points}
-use Rattle.nichols_command.specs.declared.command.Task.TheVariants.{Algebra, Reduce, Symmetrize, Table, Cover}
+use Rattle.nichols_command.specs.declared.command.Task.TheVariants.{Algebra, Reduce, Symmetrize, Product, Table, Cover}
 
 abbrev defaults : Options
 defaults = record { degree_limit = 12; rows_limit = 1024; workers = 4; window = 2; brief = false }
@@ -46,6 +46,10 @@ option_twice = refl
 a_task : command_of (codes "reduce" ∷ []) ≡ Some (OnDocument (Reduce defaults))
 unfolding clap_on_literals texts_of command_of
 a_task = refl
+
+a_product : command_of (codes "product" ∷ codes "--degree=4" ∷ []) ≡ Some (OnDocument (Product (record defaults { degree_limit = 4 })))
+unfolding clap_on_literals texts_of command_of digits_value
+a_product = refl
 
 a_table : command_of (codes "table" ∷ codes "--degree=4" ∷ []) ≡ Some (OnDocument (Table (record defaults { degree_limit = 4 })))
 unfolding clap_on_literals texts_of command_of digits_value

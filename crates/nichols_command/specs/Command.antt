@@ -8,7 +8,7 @@ use Rattle.nichols_command.specs.declared.command.Options.{Options}
 use Rattle.nichols_command.specs.declared.command.Command.{Command}
 use Rattle.nichols_command.specs.declared.command.Command.TheVariants.{OnDocument, Points}
 use Rattle.nichols_command.specs.declared.command.Task.{Task}
-use Rattle.nichols_command.specs.declared.command.Task.TheVariants.{Algebra, Reduce, Symmetrize, Table, Cover}
+use Rattle.nichols_command.specs.declared.command.Task.TheVariants.{Algebra, Reduce, Symmetrize, Product, Table, Cover}
 use Rattle.nichols_command.specs.declared.limits.TheConstants.{DEGREE_DEFAULT, ROWS_DEFAULT, WORKERS_DEFAULT, WORKERS_MOST, WINDOW_DEFAULT, WINDOW_MOST}
 
 -- ---- the options
@@ -48,6 +48,7 @@ command_named name points options =
     if bytes_eq name (codes "algebra") then without_points points (Algebra options)
     else if bytes_eq name (codes "reduce") then without_points points (Reduce options)
     else if bytes_eq name (codes "symmetrize") then without_points points Symmetrize
+    else if bytes_eq name (codes "product") then without_points points (Product options)
     else if bytes_eq name (codes "table") then without_points points (Table options)
     else if bytes_eq name (codes "cover") then without_points points (Cover options)
     else if bytes_eq name (codes "points") then of_points points options
@@ -86,6 +87,7 @@ abbrev pub IsAcceptedTask : Task → Type 0
 IsAcceptedTask (Algebra options) = AreInRange options
 IsAcceptedTask (Reduce options) = AreInRange options
 IsAcceptedTask Symmetrize = ⊤
+IsAcceptedTask (Product options) = AreInRange options
 IsAcceptedTask (Table options) = AreInRange options
 IsAcceptedTask (Cover options) = AreInRange options
 

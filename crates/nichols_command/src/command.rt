@@ -36,6 +36,8 @@ pub enum Task {
     Reduce(Options),
     /// The images of its expressions under the symmetrizer.
     Symmetrize,
+    /// The report of the algebra of its braid, and the products of its first expressions.
+    Product(Options),
     /// The brief report of the algebra of its braid, and its table of products.
     Table(Options),
     /// The brief report of the algebra of its braid, and the quadratic cover.
@@ -114,6 +116,7 @@ fn named(name: &str, points: Option<&str>, options: Options) -> Option<Command>
         "algebra" => alone(points, Task::Algebra(options)),
         "reduce" => alone(points, Task::Reduce(options)),
         "symmetrize" => alone(points, Task::Symmetrize),
+        "product" => alone(points, Task::Product(options)),
         "table" => alone(points, Task::Table(options)),
         "cover" => alone(points, Task::Cover(options)),
         "points" => of_points(points, options),

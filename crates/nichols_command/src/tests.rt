@@ -45,7 +45,7 @@ fn plain_lines(rt: HostRuntime) -> Result<(), Fail> {
         window: 1,
         brief: false,
     };
-    let lines: [(&[&str], Command); 18] = [
+    let lines: [(&[&str], Command); 19] = [
         (&["algebra"], algebra(DEFAULTS)),
         (&["algebra", "--degree", "4"], algebra(degree_4)),
         (&["algebra", "--degree=04"], algebra(degree_4)),
@@ -96,6 +96,10 @@ fn plain_lines(rt: HostRuntime) -> Result<(), Fail> {
             Command::OnDocument(Task::Reduce(degree_4)),
         ),
         (
+            &["product", "--degree=4"],
+            Command::OnDocument(Task::Product(degree_4)),
+        ),
+        (
             &["table", "--degree=4"],
             Command::OnDocument(Task::Table(degree_4)),
         ),
@@ -133,7 +137,7 @@ fn plain_lines(rt: HostRuntime) -> Result<(), Fail> {
 }
 
 /// For each rule, lists of words that break it alone.
-const BROKEN: [&[&str]; 38] = [
+const BROKEN: [&[&str]; 40] = [
     &[],
     &["--brief"],
     &["--help"],
@@ -152,12 +156,14 @@ const BROKEN: [&[&str]; 38] = [
     &["algebras"],
     &["reduces"],
     &["reduce", "3"],
+    &["products"],
     &["points"],
     &["points", "2"],
     &["points", "8"],
     &["points", "+3"],
     &["algebra", "3"],
     &["symmetrize", "3"],
+    &["product", "3"],
     &["table", "3"],
     &["cover", "3"],
     &["algebra", "--degree", "+4"],

@@ -17,7 +17,7 @@ pub record HasAnswers (braid : BraidValue) (last : ℕ) (fs : List Combination) 
   pub product : IsProductOf braid last (take i fs) r
   pub own : found ≡ map (λ k. normal_of_product braid last (take k fs)) (range_with_len 1 i)
 
-over_take : (n i : ℕ) (fs : List Combination) → AllByRecursion (IsOver n) fs → AllByRecursion (IsOver n) (take i fs)
+pub over_take : (n i : ℕ) (fs : List Combination) → AllByRecursion (IsOver n) fs → AllByRecursion (IsOver n) (take i fs)
 over_take n zero fs all = tt
 over_take n (suc i) [] all = tt
 over_take n (suc i) (f ∷ fs) all = (all.0, over_take n i fs all.1)

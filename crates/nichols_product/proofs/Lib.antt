@@ -5,3 +5,4 @@ pub mod PartTerms
 pub mod PartProducts
 pub mod RunningProducts
 pub mod AnsweredProducts
+pub mod AnswerLaws

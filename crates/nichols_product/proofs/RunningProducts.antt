@@ -30,7 +30,8 @@ use Rattle.nichols_reduce.specs.declared.answer.Normal.TheVariants.{Form, Beyond
 use Rattle.nichols_reduce.proofs.PartForms.{whole_of}
 use Rattle.nichols_reduce.proofs.WordForms.{first_form, word_product}
 use Rattle.nichols_product.specs.Parts.{AreParts, AreWithin, IsPart, IsProductOf, IsRunning, total}
-use Rattle.nichols_product.specs.Products.{degree_of_product, is_product_beyond, normal_of_product}
+use Rattle.nichols_product.specs.Degrees.{degree_of_product}
+use Rattle.nichols_product.specs.Products.{is_product_beyond, normal_of_product}
 use Rattle.nichols_product.specs.declared.parts.Part.{Part}
 use Rattle.nichols_product.specs.declared.running.Running.{Running}
 use Rattle.nichols_product.proofs.PartSums.{one_part}
@@ -116,6 +117,11 @@ zero_form : (braid : BraidValue) → IsBraid braid → (fs : List Combination) �
 zero_form braid is fs over h v =
     ap (λ f. value_at braid.field f v) (form_of_same is_killed braid is (inr refl) (product_of braid.field fs) [] (product_of_over braid.field braid.letters fs over) tt (zero_within braid.field is.field (single []) fs h))
     ∙ whole_of_nothing braid is v
+
+pub zero_form_is : (braid : BraidValue) → IsBraid braid → (fs : List Combination) → AllByRecursion (IsOver braid.letters) fs → list_any (is_zero braid.field) fs ≡ true → whole braid (product_of braid.field fs) ≡ []
+zero_form_is braid is fs over h =
+    let n : _ = whole_of braid is (product_of braid.field fs) (product_of_over braid.field braid.letters fs over) in
+    ordered_unique braid.field is.field (whole braid (product_of braid.field fs)) [] n.normal.elements tt n.normal.ordered (record { rising = tt; nonzero = tt }) (zero_form braid is fs over h)
 
 -- ---- the test
 

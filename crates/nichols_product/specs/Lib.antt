@@ -1,4 +1,5 @@
 -- what public contracts cite
+pub mod Degrees
 pub mod Products
 -- the statements of the laws
 pub mod Laws

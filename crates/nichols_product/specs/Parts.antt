@@ -9,7 +9,8 @@ use Rattle.nichols_braid.specs.Products.{products}
 use Rattle.nichols_braid.specs.WholeForm.{normal_form_by_parts}
 use Rattle.nichols_value.specs.Block.{block_basis}
 use Rattle.nichols_reduce.specs.Sums.{combination_of}
-use Rattle.nichols_product.specs.Products.{degree_of_product, is_product_beyond}
+use Rattle.nichols_product.specs.Degrees.{degree_of_product}
+use Rattle.nichols_product.specs.Products.{is_product_beyond}
 use Rattle.nichols_product.specs.declared.parts.Part.{Part}
 use Rattle.nichols_product.specs.declared.running.Running.{Running}
 

@@ -1,8 +1,7 @@
 -- Products of lists of elements, as far as the degrees of an algebra are made.
-use Rattle.std.specs.Prelude.{ℕ, Bool, ◌&&◌, not, nat_lt, List, length, map, take, sum, if◌then◌else◌}
+use Rattle.std.specs.Prelude.{ℕ, Bool, ◌&&◌, not, nat_lt, List, length, map, take, if◌then◌else◌}
 use Rattle.std.specs.List.{list_any, range_with_len}
 use Rattle.nichols_tensor.specs.Combination.{Combination, is_zero}
-use Rattle.nichols_tensor.specs.Parts.{longest}
 use Rattle.nichols_tensor.specs.Product.{product_of}
 use Rattle.nichols_braid.specs.Braid.{BraidValue}
 use Rattle.nichols_braid.specs.End.{is_empty_degree}
@@ -10,10 +9,7 @@ use Rattle.nichols_braid.specs.Kernel.{is_killed}
 use Rattle.nichols_braid.specs.WholeForm.{normal_form_by_parts}
 use Rattle.nichols_reduce.specs.declared.answer.Normal.{Normal}
 use Rattle.nichols_reduce.specs.declared.answer.Normal.TheVariants.{Form, Beyond}
-
--- the degree of a product none of whose factors is zero: the sum of the lengths of their longest words
-abbrev pub degree_of_product : List Combination → ℕ
-degree_of_product fs = sum (map longest fs)
+use Rattle.nichols_product.specs.Degrees.{degree_of_product}
 
 -- whether none of the factors is zero, and the degree of their product exceeds the last degree that is made, which has least words
 unfoldable pub is_product_beyond : BraidValue → ℕ → List Combination → Bool

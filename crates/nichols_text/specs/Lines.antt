@@ -2,7 +2,7 @@
 use Rattle.std.specs.Prelude.{ℕ, List, ◌++◌, codes, decimal, Option, None, Some}
 
 unfoldable pub usage_text : List ℕ
-usage_text = codes "usage: nichols algebra or reduce or symmetrize or points K or table or cover [--degree N] [--rows N] [--workers N] [--window N] [--brief]\n"
+usage_text = codes "usage: nichols algebra or reduce or symmetrize or points K or product or table or cover [--degree N] [--rows N] [--workers N] [--window N] [--brief]\n"
 
 unfoldable pub read_fault_text : List ℕ
 read_fault_text = codes "read fault\n"

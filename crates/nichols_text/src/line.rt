@@ -79,7 +79,7 @@ pub fn memory_line(last: Option<u32>) -> Line
 pub fn usage_line() -> &'static [u8]
     ensures { result.now ≡ usage_text }
 {
-    b"usage: nichols algebra or reduce or symmetrize or points K or table or cover [--degree N] [--rows N] [--workers N] [--window N] [--brief]\n"
+    b"usage: nichols algebra or reduce or symmetrize or points K or product or table or cover [--degree N] [--rows N] [--workers N] [--window N] [--brief]\n"
 }
 
 /// The line for a source that failed.

@@ -374,6 +374,6 @@ fn single_lines(rt: HostRuntime) {
     assert!(rt; read_fault_line() == b"read fault\n".as_slice());
     assert!(rt;
         usage_line()
-            == b"usage: nichols algebra or reduce or symmetrize or points K or table or cover [--degree N] [--rows N] [--workers N] [--window N] [--brief]\n".as_slice()
+            == b"usage: nichols algebra or reduce or symmetrize or points K or product or table or cover [--degree N] [--rows N] [--workers N] [--window N] [--brief]\n".as_slice()
     );
 }

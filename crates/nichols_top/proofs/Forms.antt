@@ -23,10 +23,11 @@ use Rattle.nichols_top.specs.Ended.{HasEnd}
 use Rattle.nichols_top.specs.NormalLine.{normal_line, normal_piece}
 use Rattle.nichols_top.specs.Reduce.{form_due, is_beyond_stop}
 use Rattle.nichols_top.specs.Report.{Piece, numbered_pieces, piece}
+use Rattle.nichols_top.specs.declared.normals.Told.TheVariants.{Forms}
 use Rattle.nichols_top.proofs.EndLines.{closed_is_empty, stopped_is_filled}
 
 -- a degree is empty for the derivations where it is for the symmetrizer
-empty_alike : (braid : BraidValue) → IsBraid braid → (m : ℕ) → is_empty_degree is_killed braid m ≡ is_empty_degree is_in_kernel braid m
+pub empty_alike : (braid : BraidValue) → IsBraid braid → (m : ℕ) → is_empty_degree is_killed braid m ≡ is_empty_degree is_in_kernel braid m
 empty_alike braid is m = ap (λ ws. nat_eq (length ws) 0) (sym ((one_reading braid is).alike.bases m))
 
 beyond_is : (g : GradedValue) (stop : Option Stop) (f : Combination) → IsGraded g → HasEnd g stop → is_beyond g.braid g.last f ≡ is_beyond_stop stop g.last f
@@ -38,19 +39,19 @@ beyond_is g (Some stop) f is reached =
 
 -- the line of what the reduction answers
 pub normal_line_is : (g : GradedValue) (order : List ℕ) (stop : Option Stop) (k : ℕ) (f : Combination) (n : Normal) → IsGraded g → HasEnd g stop → IsOver g.braid.letters f → n ≡ normal_of g.braid g.last f →
-    normal_line g.braid.field order k n ≡ cond (is_beyond_stop stop g.last f) (beyond_line k g.last) (form_line g.braid.field order k (normal_form_by_parts is_in_kernel g.braid f))
+    normal_line Forms g.braid.field order k n ≡ cond (is_beyond_stop stop g.last f) (beyond_line k g.last) (form_line g.braid.field order k (normal_form_by_parts is_in_kernel g.braid f))
 unfolding normal_of
 normal_line_is g order stop k f n is reached over e =
-    ap (normal_line g.braid.field order k) e ∙ ap (λ b. normal_line g.braid.field order k (cond b (Beyond g.last) (Form (normal_form_by_parts is_killed g.braid f)))) (beyond_is g stop f is reached)
+    ap (normal_line Forms g.braid.field order k) e ∙ ap (λ b. normal_line Forms g.braid.field order k (cond b (Beyond g.last) (Form (normal_form_by_parts is_killed g.braid f)))) (beyond_is g stop f is reached)
     ∙ at (is_beyond_stop stop g.last f)
   where
-    at : (b : Bool) → normal_line g.braid.field order k (cond b (Beyond g.last) (Form (normal_form_by_parts is_killed g.braid f))) ≡ cond b (beyond_line k g.last) (form_line g.braid.field order k (normal_form_by_parts is_in_kernel g.braid f))
+    at : (b : Bool) → normal_line Forms g.braid.field order k (cond b (Beyond g.last) (Form (normal_form_by_parts is_killed g.braid f))) ≡ cond b (beyond_line k g.last) (form_line g.braid.field order k (normal_form_by_parts is_in_kernel g.braid f))
     at true = refl
     at false = ap (form_line g.braid.field order k) (forms_have_one_reading g.braid is.braid f over)
 
 -- the pieces of what the reduction answers
 pub normal_pieces_are : (g : GradedValue) (order : List ℕ) (stop : Option Stop) (k : ℕ) (fs : List Combination) → IsGraded g → HasEnd g stop → AllByRecursion (IsOver g.braid.letters) fs →
-    numbered_pieces (normal_piece g.braid.field order) k (map (normal_of g.braid g.last) fs) ≡ numbered_pieces (form_due g.braid order stop g.last) k fs
+    numbered_pieces (normal_piece Forms g.braid.field order) k (map (normal_of g.braid g.last) fs) ≡ numbered_pieces (form_due g.braid order stop g.last) k fs
 unfolding form_due
 normal_pieces_are g order stop k [] is reached over = refl
 normal_pieces_are g order stop k (f ∷ fs) is reached over =

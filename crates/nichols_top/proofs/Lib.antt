@@ -14,6 +14,7 @@ pub mod Expressions
 pub mod Covers
 pub mod Each
 pub mod Tables
+pub mod Products
 mod WorkedTexts
 mod WorkedLimits
 mod WorkedReports

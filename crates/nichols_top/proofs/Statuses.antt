@@ -8,7 +8,7 @@ use Rattle.nichols_command.specs.Command.{command_of}
 use Rattle.nichols_command.specs.declared.command.Command.{Command}
 use Rattle.nichols_command.specs.declared.command.Command.TheVariants.{OnDocument, Points}
 use Rattle.nichols_command.specs.declared.command.Task.{Task}
-use Rattle.nichols_command.specs.declared.command.Task.TheVariants.{Algebra, Reduce, Symmetrize, Table, Cover}
+use Rattle.nichols_command.specs.declared.command.Task.TheVariants.{Algebra, Reduce, Symmetrize, Product, Table, Cover}
 use Rattle.nichols_cover.specs.Cover.{StopValue}
 use Rattle.nichols_graded.specs.declared.ends.Stop.{Stop}
 use Rattle.nichols_input.specs.Document.{DocumentValue, document_in}
@@ -18,6 +18,7 @@ use Rattle.nichols_top.specs.Algebra.{Scope, scope_of, in_brief, degrees_in, sto
 use Rattle.nichols_top.specs.Cover.{cover_due, cover_piece, cover_status, cover_through}
 use Rattle.nichols_top.specs.Due.{task_due, unless_refused, command_due, is_too_long, due_under, due}
 use Rattle.nichols_top.specs.Input.{document_limit}
+use Rattle.nichols_top.specs.Product.{first_products_due, product_due}
 use Rattle.nichols_top.specs.Reduce.{forms_due, reduce_due}
 use Rattle.nichols_top.specs.Report.{Piece, Report, line_report}
 use Rattle.nichols_top.specs.Status.{code}
@@ -99,6 +100,12 @@ reduce_report document scope =
     at_end (pieces_due document.braid document.order scope ++ forms_due document scope) (stop_in document.braid scope)
     (let some = some_pieces document.braid document.order scope in omega (arith, length-append (pieces_due document.braid document.order scope) (forms_due document scope), some))
 
+product_report : (document : DocumentValue) (scope : Scope) → IsReport (product_due document scope)
+unfolding product_due
+product_report document scope =
+    at_end (pieces_due document.braid document.order scope ++ first_products_due document scope) (stop_in document.braid scope)
+    (let some = some_pieces document.braid document.order scope in omega (arith, length-append (pieces_due document.braid document.order scope) (first_products_due document scope), some))
+
 refused_report : (line : List ℕ) → IsReport (line_report line Refused)
 refused_report line = report_of _ Refused refl (λ e. cc) (λ e. cc) (λ e. cc) (omega arith)
 
@@ -136,6 +143,7 @@ unfolding task_due
 task_report (Algebra options) document = algebra_report document.braid document.order (scope_of options)
 task_report (Reduce options) document = reduce_report document (scope_of options)
 task_report Symmetrize document = symmetrize_report document
+task_report (Product options) document = product_report document (scope_of options)
 task_report (Table options) document = table_report document.braid document.order (scope_of options)
 task_report (Cover options) document = cover_report document.braid document.order (scope_of options)
 

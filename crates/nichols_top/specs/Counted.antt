@@ -6,7 +6,7 @@ use Rattle.nichols_command.specs.Command.{command_of}
 use Rattle.nichols_command.specs.declared.command.Command.{Command}
 use Rattle.nichols_command.specs.declared.command.Command.TheVariants.{OnDocument, Points}
 use Rattle.nichols_command.specs.declared.command.Task.{Task}
-use Rattle.nichols_command.specs.declared.command.Task.TheVariants.{Algebra, Reduce, Symmetrize, Table, Cover}
+use Rattle.nichols_command.specs.declared.command.Task.TheVariants.{Algebra, Reduce, Symmetrize, Product, Table, Cover}
 use Rattle.nichols_crew.specs.Counting.{block_count}
 use Rattle.nichols_input.specs.Document.{DocumentValue, document_in}
 use Rattle.nichols_input.specs.Refusal.{Refusal}
@@ -23,6 +23,7 @@ unfoldable pub task_blocks : Task → DocumentValue → ℕ
 task_blocks (Algebra options) document = algebra_blocks document.braid (scope_of options)
 task_blocks (Reduce options) document = algebra_blocks document.braid (scope_of options)
 task_blocks Symmetrize document = 0
+task_blocks (Product options) document = algebra_blocks document.braid (scope_of options)
 task_blocks (Table options) document = algebra_blocks document.braid (scope_of options)
 task_blocks (Cover options) document = algebra_blocks document.braid (scope_of options)
 

@@ -6,7 +6,7 @@ use Rattle.nichols_command.specs.Command.{command_of}
 use Rattle.nichols_command.specs.declared.command.Command.{Command}
 use Rattle.nichols_command.specs.declared.command.Command.TheVariants.{OnDocument, Points}
 use Rattle.nichols_command.specs.declared.command.Task.{Task}
-use Rattle.nichols_command.specs.declared.command.Task.TheVariants.{Algebra, Reduce, Symmetrize, Table, Cover}
+use Rattle.nichols_command.specs.declared.command.Task.TheVariants.{Algebra, Reduce, Symmetrize, Product, Table, Cover}
 use Rattle.nichols_input.specs.Document.{DocumentValue, document_in}
 use Rattle.nichols_input.specs.Refusal.{Refusal}
 use Rattle.nichols_text.specs.Lines.{usage_text}
@@ -14,6 +14,7 @@ use Rattle.nichols_text.specs.Refusals.{document_line, too_long_text}
 use Rattle.nichols_top.specs.Algebra.{scope_of, in_brief, algebra_due}
 use Rattle.nichols_top.specs.Cover.{cover_due}
 use Rattle.nichols_top.specs.Input.{document_limit}
+use Rattle.nichols_top.specs.Product.{product_due}
 use Rattle.nichols_top.specs.Reduce.{reduce_due}
 use Rattle.nichols_top.specs.Report.{Report, line_report}
 use Rattle.nichols_top.specs.Symmetrize.{symmetrize_due}
@@ -30,6 +31,7 @@ unfoldable pub task_due : Task → DocumentValue → Report
 task_due (Algebra options) document = algebra_due document.braid document.order (scope_of options)
 task_due (Reduce options) document = reduce_due document (scope_of options)
 task_due Symmetrize document = symmetrize_due document
+task_due (Product options) document = product_due document (scope_of options)
 task_due (Table options) document = table_due document.braid document.order (scope_of options)
 task_due (Cover options) document = cover_due document.braid document.order (scope_of options)
 

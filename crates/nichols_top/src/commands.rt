@@ -16,6 +16,7 @@ ghost use Rattle.nichols_top.specs.Written.{IsStopped, writer_seen, Writes};
 use crate::algebra::put_algebra;
 use crate::cover::put_cover;
 use crate::line::put_refusal;
+use crate::product::put_product;
 use crate::reduce::put_reduce;
 use crate::status::Status;
 use crate::symmetrize::put_symmetrize;
@@ -80,6 +81,7 @@ fn put_task<R: Threads + Sync, K: Sink, G: Gate + Sync>(
         }
         Task::Reduce(options) => put_reduce(rt, alloc, document, options, out, gate),
         Task::Symmetrize => put_symmetrize(alloc, &document, out),
+        Task::Product(options) => put_product(rt, alloc, document, options, out, gate),
         Task::Table(options) => {
             let order = document.order;
             put_table(rt, alloc, document.braid, &order, options, out, gate)

@@ -1,6 +1,6 @@
 //! The report of normal forms.
 
-ghost use Rattle.std.specs.Prelude.{◌≡◌, ◌≤◌, [], ◌∷◌, length, IfOk};
+ghost use Rattle.std.specs.Prelude.{◌≡◌, ◌≤◌, length, IfOk};
 ghost use Rattle.std.specs.List.{AllByRecursion};
 ghost use Rattle.nichols_tensor.specs.Combination.{AllElements};
 ghost use Rattle.nichols_tensor.specs.Words.{IsOver};
@@ -8,7 +8,6 @@ ghost use Rattle.nichols_command.specs.Command.{AreInRange};
 ghost use Rattle.nichols_expression.specs.declared.TheConstants.{EXPRESSION_LIMIT};
 ghost use Rattle.nichols_top.specs.Algebra.{scope_of};
 ghost use Rattle.nichols_top.specs.Ended.{HasEnd};
-ghost use Rattle.nichols_top.specs.NormalLine.{normal_line, normal_piece};
 ghost use Rattle.nichols_top.specs.Reduce.{form_due, reduce_due};
 ghost use Rattle.nichols_top.specs.Report.{numbered_pieces};
 ghost use Rattle.nichols_crew.specs.Counting.{HasCounted};
@@ -16,18 +15,17 @@ ghost use Rattle.nichols_top.specs.Counted.{algebra_blocks};
 ghost use Rattle.nichols_top.specs.Written.{IsStopped, writer_seen, Puts, Writes};
 
 use crate::algebra::{Ended, put_pieces, status_of};
+use crate::normals::{Told, put_normals};
 use crate::status::Status;
 use crate::writer::{Break, Writer};
 use nichols_braid::Order;
 use nichols_command::Options;
 use nichols_crew::Gate;
-use nichols_field::Field;
 use nichols_input::Document;
 use nichols_io::Sink;
-use nichols_reduce::{Normal, normal_all};
-use nichols_text::{beyond_text, form_text};
+use nichols_reduce::normal_all;
 use nichols_words::Comb;
-use std::alloc::{AllocError, Global};
+use std::alloc::Global;
 use std::thread::Threads;
 
 /// Writes the report of the algebra of a document's braid, and the normal forms of its expressions.
@@ -94,63 +92,10 @@ fn put_forms<R: Threads + Sync, K: Sink>(
     let normals = normal_all(rt, alloc, levels, expressions, workers)?;
     put_normals(
         alloc,
+        Told::Forms,
         levels.braid().field(),
         order,
         normals.as_slice(),
         out,
     )
-}
-
-/// Writes what is known of normal forms, numbered from 1 on.
-fn put_normals<K: Sink>(
-    alloc: Global,
-    field: Field,
-    order: &Order,
-    normals: &[Normal],
-    out: &mut Writer<'_, K>,
-) -> Result<(), Break>
-    requires number { length normals.now ≤ EXPRESSION_LIMIT }
-    ensures same_sink { out.new.sink.ghost_name ≡ out.old.sink.ghost_name }
-    ensures pieces { Puts (numbered_pieces (normal_piece field order.now) 1 normals.now) (writer_seen K.taken K.faults out.old) (writer_seen K.taken K.faults out.new) result }
-    ensures stopped { result ≡ Err Break.Fault → IsStopped K.taken K.faults out.old.sink.now out.new.sink.now }
-{
-    let mut number = 1;
-    for normal in normals {
-        put_normal(alloc, field, order, number, normal, out)?;
-        number += 1;
-    }
-    Ok(())
-}
-
-/// Writes a normal form, or that it is beyond the last finished degree.
-fn put_normal<K: Sink>(
-    alloc: Global,
-    field: Field,
-    order: &Order,
-    number: u32,
-    normal: &Normal,
-    out: &mut Writer<'_, K>,
-) -> Result<(), Break>
-    ensures same_sink { out.new.sink.ghost_name ≡ out.old.sink.ghost_name }
-    ensures piece { Puts (normal_piece field order.now number normal.now ∷ []) (writer_seen K.taken K.faults out.old) (writer_seen K.taken K.faults out.new) result }
-    ensures stopped { result ≡ Err Break.Fault → IsStopped K.taken K.faults out.old.sink.now out.new.sink.now }
-{
-    let text = normal_text(alloc, field, order, number, normal)?;
-    out.put(text.as_slice(), None)
-}
-
-/// The line of a normal form, or of one that is beyond the last finished degree.
-fn normal_text(
-    alloc: Global,
-    field: Field,
-    order: &Order,
-    number: u32,
-    normal: &Normal,
-) -> Result<Vec<u8>, AllocError>
-    ensures { IfOk result (λ text. text.items ≡ normal_line field order.now number normal.now) }
-{
-    match normal {
-        Normal::Form(form) => form_text(alloc, field, order, number, form),
-        Normal::Beyond(last) => beyond_text(alloc, number, *last),
-    }
 }

@@ -10,6 +10,7 @@ mod faults;
 mod keys;
 mod plain;
 mod points;
+mod products;
 mod refusals;
 mod rows;
 mod tables;

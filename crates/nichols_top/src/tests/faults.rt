@@ -4,7 +4,7 @@ use super::{Run, THREE, UP_TO_TWO, ran};
 use std::test::Fail;
 
 const USAGE: &str =
-    "usage: nichols algebra or reduce or symmetrize or points K or table or cover [--degree N] [--rows N] [--workers N] [--window N] [--brief]\n";
+    "usage: nichols algebra or reduce or symmetrize or points K or product or table or cover [--degree N] [--rows N] [--workers N] [--window N] [--brief]\n";
 
 /// The words, the document, the reads and the writes that fail, the text and the status, of runs that end without a
 /// report or within it.

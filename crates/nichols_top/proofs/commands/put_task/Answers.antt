@@ -43,3 +43,11 @@ returns-in-Table-clause-report g c = rw (c.in-Table.is, ← (ap (λ d. d.braid) 
 pub returns-in-Table-clause-counted : goal.returns-in-Table-clause-counted
 unfolding task_blocks
 returns-in-Table-clause-counted g c = rw (c.in-Table.is, ← (ap (λ d. d.braid) c.document-in-Table.view_is)) c.put_table.ensures.counted
+
+pub returns-in-Product-clause-report : goal.returns-in-Product-clause-report
+unfolding task_due
+returns-in-Product-clause-report g c = rw c.in-Product.is c.put_product.ensures.report
+
+pub returns-in-Product-clause-counted : goal.returns-in-Product-clause-counted
+unfolding task_blocks
+returns-in-Product-clause-counted g c = rw c.in-Product.is c.put_product.ensures.counted
