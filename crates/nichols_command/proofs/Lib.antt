@@ -1,4 +1,5 @@
 pub mod Digits
+mod DecimalTexts
 pub mod PlainRows
 pub mod PlainWalk
 pub mod PlainEnd

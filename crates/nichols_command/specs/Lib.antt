@@ -3,5 +3,6 @@ pub mod Command
 pub mod Numbers
 pub mod Texts
 pub mod PlainForm
+pub mod DecimalForm
 -- what the crate's own functions cite
 pub mod Given
