@@ -4,6 +4,8 @@ use Rattle.std.proofs.Common.{◌≡◌, [], ◌∷◌, refl}
 use Rattle.nichols_field.specs.Moduli.{moduli}
 use Rattle.nichols_lift.specs.declared.TheConstants.{PLACE_LIMIT}
 use Rattle.nichols_command.specs.declared.limits.TheConstants.{DIGITS_MOST, DEGREE_DEFAULT, ROWS_DEFAULT, WORKERS_DEFAULT, WORKERS_MOST, WINDOW_DEFAULT, WINDOW_MOST}
+use Rattle.nichols_top.specs.declared.table.TheConstants.{TABLE_LIMIT}
+use Rattle.nichols_top.specs.declared.cover.TheConstants.{CANDIDATE_LIMIT}
 
 six_moduli : moduli ≡ 2 ∷ 3 ∷ 5 ∷ 7 ∷ 101 ∷ 65521 ∷ []
 six_moduli = refl
@@ -35,3 +37,11 @@ digits_most = refl
 
 place_limit : PLACE_LIMIT ≡ 7
 place_limit = refl
+
+-- ---- tables and covers
+
+table_limit : TABLE_LIMIT ≡ 200
+table_limit = refl
+
+candidate_limit : CANDIDATE_LIMIT ≡ 1024
+candidate_limit = refl
