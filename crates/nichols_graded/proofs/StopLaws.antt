@@ -105,8 +105,14 @@ has_row_stop braid limit rows_limit m within few =
   where
     at : (stop : Option Stop) → stops_at braid limit rows_limit m ≡ stop → Tells (rows is_in_kernel braid m) rows_limit m 1 (products braid m) stop → HasStop braid limit rows_limit m
     at _ e (all_within all) = (None, e, (within, few, all))
-    at _ e (one_over number count first) =
-        (Some (Rows m number count), e, (within, few, refl, record {
+    at _ e (one_over number count first) = (
+      Some (Rows m number count),
+      e,
+      (
+        within,
+        few,
+        refl,
+        record {
           before = first.before;
           product = first.product;
           behind = first.behind;
@@ -115,7 +121,9 @@ has_row_stop braid limit rows_limit m within few =
           over = first.over;
           place = omega (arith, first.place);
           counted = first.counted;
-        }))
+        },
+      ),
+    )
 
 has_stop : (braid : BraidValue) (limit rows_limit m : ℕ) → HasStop braid limit rows_limit m
 has_stop braid limit rows_limit m =
@@ -166,8 +174,8 @@ stopped_at braid limit rows_limit m stop most h =
     let stops : ℕ → Option Stop = stops_at braid limit rows_limit in
     record {
       below = λ j less.
-        let within : j ≤ limit = free_is_within braid limit rows_limit j (h.free j less) in
-        in_finished is_in_kernel braid stops j (omega (arith, within, most)) (λ k up. h.free k (omega (arith, up, less))) (λ k before. h.filled k (omega (arith, before, less)));
+          let within : j ≤ limit = free_is_within braid limit rows_limit j (h.free j less) in
+          in_finished is_in_kernel braid stops j (omega (arith, within, most)) (λ k up. h.free k (omega (arith, up, less))) (λ k before. h.filled k (omega (arith, before, less)));
       unfinished = λ i. let c : None ≡ Some stop = sym (free_if_finished braid stops m i) ∙ h.cause in cc;
       stop = h.cause;
     }
@@ -184,15 +192,18 @@ stopped_where braid limit rows_limit stop e = at (stop_of is_in_kernel braid (st
     first : (o : Stop) → stop_of is_in_kernel braid (stops_at braid limit rows_limit) ≡ Some o → (m : ℕ) × IsFirstStopped braid limit rows_limit m o
     first o found =
         let stops : ℕ → Option Stop = stops_at braid limit rows_limit in
-        let (unclosed, (m, h)) = ((an_end_is_reached Stop is_in_kernel braid stops).1 o).0 found in
-        (m, record {
-          cause = h.stop;
-          free = λ j less. free_if_finished braid stops j (h.below j less);
-          filled = λ j less. false_from_ne_true (is_empty_degree is_in_kernel braid j) (λ empty.
-            let (within, free, filled) = from_finished is_in_kernel braid stops j (h.below j less) in
-            let c : true ≡ false = sym ((closed_where_a_degree_is_empty Stop is_in_kernel braid stops).1 (j, within, free, empty)) ∙ unclosed in
-            cc);
-        })
+        let (unclosed, (m, h)) = ((an_end_is_reached Stop is_in_kernel braid stops).1 o).0 found in (
+          m,
+          record {
+            cause = h.stop;
+            free = λ j less. free_if_finished braid stops j (h.below j less);
+            filled = λ j less. false_from_ne_true (is_empty_degree is_in_kernel braid j) (λ empty.
+                let (within, free, filled) = from_finished is_in_kernel braid stops j (h.below j less) in
+                let c : true ≡ false = sym ((closed_where_a_degree_is_empty Stop is_in_kernel braid stops).1 (j, within, free, empty)) ∙ unclosed in
+                cc);
+          },
+        )
+
     at : (o : Option Stop) → stop_of is_in_kernel braid (stops_at braid limit rows_limit) ≡ o → end_by o ≡ Stopped stop → (m : ℕ) × IsFirstStopped braid limit rows_limit m stop
     at None found e = let c : Closed ≡ Stopped stop = e in cc
     at (Some o) found e = let same : o ≡ stop = (let t : Stopped o ≡ Stopped stop = e in cc) in first stop (found ∙ ap Some same)
