@@ -1,8 +1,9 @@
 -- Command lines that are written out.
-use Rattle.std.proofs.Common.{◌≡◌, true, false, [], ◌∷◌, refl, codes, Some, None}
+use Rattle.std.proofs.Common.{◌≡◌, ℕ, true, false, List, [], ◌∷◌, refl, codes, Option, Some, None}
+use Rattle.std.specs.Prelude.{IsSome}
 use Rattle.clap.proofs.OnLiterals.{clap_on_literals}
 use Rattle.nichols_command.specs.Numbers.{digits_value}
-use Rattle.nichols_command.specs.Texts.{texts_of}
+use Rattle.nichols_command.specs.Texts.{Texts, texts_of}
 use Rattle.nichols_command.specs.Command.{command_of}
 use Rattle.nichols_command.specs.declared.command.Options.{Options}
 use Rattle.nichols_command.specs.declared.command.Command.TheVariants.{OnDocument, Points}
@@ -102,3 +103,31 @@ degree_too_great = refl
 no_rows : command_of (codes "algebra" ∷ codes "--rows" ∷ codes "0" ∷ []) ≡ None
 unfolding clap_on_literals texts_of command_of digits_value
 no_rows = refl
+
+-- ---- two lines that differ in workers and window alone
+
+abbrev pub one_worker : List (List ℕ)
+one_worker = codes "algebra" ∷ codes "--workers=1" ∷ codes "--degree" ∷ codes "4" ∷ []
+
+abbrev pub wide_window : List (List ℕ)
+wide_window = codes "algebra" ∷ codes "--degree=4" ∷ codes "--window" ∷ codes "8" ∷ []
+
+abbrev pub texts_with : Option (List ℕ) → Option (List ℕ) → Texts
+texts_with workers window =
+    record { command = Some (codes "algebra"); points = None; degree = Some (codes "4"); rows = None; workers = workers; window = window; brief = Some (codes "false") }
+
+pub one_worker_texts : texts_of one_worker ≡ Some (texts_with (Some (codes "1")) None)
+unfolding clap_on_literals texts_of
+one_worker_texts = refl
+
+pub wide_window_texts : texts_of wide_window ≡ Some (texts_with None (Some (codes "8")))
+unfolding clap_on_literals texts_of
+wide_window_texts = refl
+
+pub one_worker_is_command : IsSome (command_of one_worker)
+unfolding clap_on_literals texts_of command_of digits_value
+one_worker_is_command = refl
+
+pub wide_window_is_command : IsSome (command_of wide_window)
+unfolding clap_on_literals texts_of command_of digits_value
+wide_window_is_command = refl

@@ -1,5 +1,7 @@
 mod Division
 pub mod EndLaws
+pub mod StopLaws
+pub mod WholeLaws
 pub mod FactorLaws
 mod FactorSteps
 mod FinishedDegrees

@@ -5,6 +5,8 @@ pub mod Graded
 -- the statements of the laws
 pub mod FactorLaws
 pub mod Laws
+pub mod StopLaws
+pub mod WholeLaws
 -- what the crate's own functions cite
 pub mod Ahead
 pub mod Sizes

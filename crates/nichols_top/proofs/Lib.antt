@@ -5,11 +5,13 @@ pub mod Statuses
 pub mod Conclusions
 pub mod DocumentRead
 pub mod CommandReports
+pub mod ReportLaws
 pub mod Numbered
 pub mod EndLines
 pub mod Forms
 pub mod Images
 pub mod LongExpressions
+pub mod LongLaws
 pub mod Expressions
 pub mod Covers
 pub mod Each

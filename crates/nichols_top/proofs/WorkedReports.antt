@@ -1,16 +1,19 @@
--- Worked rows: what is due for documents that are refused under an order, and a braid over four elements that is written in two ways.
-use Rattle.std.proofs.Common.{◌≡◌, ℕ, List, [], ◌∷◌, ◌++◌, Ok, codes, refl}
+-- Worked rows: what is due for documents that are refused under an order, a braid over four elements that is written in two ways, and
+-- two command lines that differ in workers and window alone.
+use Rattle.std.proofs.Common.{◌≡◌, ℕ, List, [], ◌∷◌, ◌++◌, None, Ok, Some, codes, refl}
 use Rattle.std.specs.Prelude.{pos}
 use Rattle.std.specs.Fmt.{digits}
 use Rattle.nichols_field.specs.Field.{prime_field, quadratic_field}
 use Rattle.nichols_command.specs.declared.command.Command.TheVariants.{OnDocument}
 use Rattle.nichols_command.specs.declared.command.Task.{Task}
+use Rattle.nichols_command.proofs.WorkedLines.{one_worker, one_worker_is_command, one_worker_texts, texts_with, wide_window, wide_window_is_command, wide_window_texts}
 use Rattle.nichols_input.specs.Document.{document_in}
 use Rattle.nichols_input.proofs.OnLiterals.{input_on_literals}
 use Rattle.nichols_text.specs.Refusals.{cocycle_zero_text}
-use Rattle.nichols_top.specs.Due.{command_due}
+use Rattle.nichols_top.specs.Due.{command_due, due}
 use Rattle.nichols_top.specs.Report.{line_report}
 use Rattle.nichols_top.specs.declared.status.Status.TheVariants.{Refused}
+use Rattle.nichols_top.proofs.ReportLaws.{workers_and_window_leave_the_report}
 
 abbrev with_two_zeros : List ℕ
 with_two_zeros = codes "modulus = 101\nrack = [[1, 3, 2], [3, 2, 1], [2, 1, 3]]\ncocycle = [[-1, -1, -1], [-1, -1, 0], [0, -1, -1]]\n"
@@ -41,3 +44,10 @@ in_integers_and_pairs = refl
 in_pairs_alone : document_in (of_two_letters ++ codes "cocycle = [[[1, 0], [2, -1]], [[-1, 3], [-1, 0]]]\n") ≡ document_in (of_two_letters ++ codes "cocycle = [[1, [0, 1]], [[1, 1], -1]]\n")
 unfolding input_on_literals
 in_pairs_alone = refl
+
+-- ---- two command lines
+
+one_report : (document : List ℕ) → due one_worker document ≡ due wide_window document
+one_report document =
+    workers_and_window_leave_the_report one_worker wide_window (texts_with (Some (codes "1")) None) (texts_with None (Some (codes "8"))) one_worker_texts wide_window_texts one_worker_is_command wide_window_is_command
+    (record { command = refl; points = refl; degree = refl; rows = refl; brief = refl }) document

@@ -6,6 +6,7 @@ mod commands;
 mod cover;
 mod cover_text;
 mod entry;
+pub mod laws;
 mod line;
 mod normals;
 mod product;
