@@ -11,7 +11,7 @@ use Rattle.nichols_command.specs.declared.command.Command.{Command}
 use Rattle.nichols_command.specs.declared.command.Command.TheVariants.{OnDocument, Points}
 use Rattle.nichols_command.specs.declared.command.Options.{Options}
 use Rattle.nichols_command.specs.declared.command.Task.{Task}
-use Rattle.nichols_command.specs.declared.command.Task.TheVariants.{Algebra, Reduce, Symmetrize, Table, Cover}
+use Rattle.nichols_command.specs.declared.command.Task.TheVariants.{Algebra, Reduce, Symmetrize, Product, Table, Cover}
 use Rattle.nichols_command.specs.declared.limits.TheConstants.{DEGREE_DEFAULT, ROWS_DEFAULT, WINDOW_DEFAULT, WINDOW_MOST, WORKERS_DEFAULT, WORKERS_MOST}
 use Rattle.nichols_input.specs.declared.TheConstants.{DOCUMENT_LIMIT}
 use Rattle.nichols_input.specs.Document.{DocumentValue, document_in}
@@ -20,6 +20,7 @@ use Rattle.nichols_text.specs.Refusals.{too_long_text}
 use Rattle.nichols_top.specs.Algebra.{Scope, algebra_due, in_brief, scope_of}
 use Rattle.nichols_top.specs.Cover.{cover_due}
 use Rattle.nichols_top.specs.Due.{command_due, due, due_under, is_too_long, task_due, unless_refused}
+use Rattle.nichols_top.specs.Product.{product_due}
 use Rattle.nichols_top.specs.Reduce.{reduce_due}
 use Rattle.nichols_top.specs.Report.{line_report}
 use Rattle.nichols_top.specs.Table.{table_due}
@@ -69,9 +70,10 @@ one_named name points x y same =
     either (bytes_eq name (codes "algebra")) (one_without points (Algebra x) (Algebra y) (λ d. ap (λ (s : Scope). algebra_due d.braid d.order s) same))
     (either (bytes_eq name (codes "reduce")) (one_without points (Reduce x) (Reduce y) (λ d. ap (λ (s : Scope). reduce_due d s) same))
     (either (bytes_eq name (codes "symmetrize")) (one_without points Symmetrize Symmetrize (λ d. refl))
+    (either (bytes_eq name (codes "product")) (one_without points (Product x) (Product y) (λ d. ap (λ (s : Scope). product_due d s) same))
     (either (bytes_eq name (codes "table")) (one_without points (Table x) (Table y) (λ d. ap (λ (s : Scope). table_due d.braid d.order s) same))
     (either (bytes_eq name (codes "cover")) (one_without points (Cover x) (Cover y) (λ d. ap (λ (s : Scope). cover_due d.braid d.order s) same))
-    (either (bytes_eq name (codes "points")) (one_of_points points x y same) none_alike)))))
+    (either (bytes_eq name (codes "points")) (one_of_points points x y same) none_alike))))))
 
 -- ---- one scope
 
