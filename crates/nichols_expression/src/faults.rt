@@ -3,11 +3,7 @@
 ghost use Rattle.nichols_expression.specs.declared.faults.ExpressionFault.TheVariants.{Memory};
 ghost use Rattle.std.specs.Prelude.{◌≡◌};
 
-use crate::{EXPRESSION_LIMIT, NUMBER_LIMIT, TERM_LIMIT};
-use nichols_tensor::WORD_LIMIT;
 use std::alloc::{AllocError, AllocFailed};
-use std::error::Error;
-use std::fmt;
 
 /// What is wrong at a place of a text.
 #[derive(Clone, Copy, Debug, PartialEq, Eq)]
@@ -28,20 +24,6 @@ pub enum Cause {
     Surplus,
 }
 
-impl fmt::Display for Cause {
-    fn fmt<W: fmt::Write>(&self, f: &mut fmt::Formatter<W>) -> fmt::Result {
-        match self {
-            Cause::Early => write!(f, "text ends too early"),
-            Cause::Byte => write!(f, "unexpected byte"),
-            Cause::Letter => write!(f, "letter outside the rack"),
-            Cause::LongNumber => write!(f, "number longer than {NUMBER_LIMIT} digits"),
-            Cause::LongWord => write!(f, "word longer than {WORD_LIMIT} letters"),
-            Cause::Terms => write!(f, "more than {TERM_LIMIT} terms"),
-            Cause::Surplus => write!(f, "more than {EXPRESSION_LIMIT} expressions"),
-        }
-    }
-}
-
 /// Why an expression isn't read.
 #[derive(Clone, Copy, Debug, PartialEq, Eq)]
 pub enum ExpressionFault {
@@ -52,17 +34,6 @@ pub enum ExpressionFault {
     /// Want of memory.
     Memory,
 }
-
-impl fmt::Display for ExpressionFault {
-    fn fmt<W: fmt::Write>(&self, f: &mut fmt::Formatter<W>) -> fmt::Result {
-        match self {
-            ExpressionFault::At(place, cause) => write!(f, "{cause} at byte {place}"),
-            ExpressionFault::Memory => write!(f, "out of memory"),
-        }
-    }
-}
-
-impl Error for ExpressionFault {}
 
 impl From<AllocError> for ExpressionFault {
     ghost from_gives = { λ _ fault. fault ≡ Memory };

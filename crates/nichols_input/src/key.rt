@@ -3,8 +3,6 @@
 ghost use Rattle.std.specs.Prelude.{◌≡◌};
 ghost use Rattle.nichols_input.specs.Keys.{key_name};
 
-use std::fmt;
-
 /// A key that a document may have.
 #[derive(Clone, Copy, Debug, PartialEq, Eq)]
 pub enum Key {
@@ -35,11 +33,5 @@ impl Key {
             Key::Order => "order",
             Key::Expressions => "expressions",
         }
-    }
-}
-
-impl fmt::Display for Key {
-    fn fmt<W: fmt::Write>(&self, f: &mut fmt::Formatter<W>) -> fmt::Result {
-        f.write_str(self.name())
     }
 }
