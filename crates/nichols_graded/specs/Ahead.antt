@@ -51,6 +51,7 @@ pub record IsSurvey (braid : BraidValue) (limit rows m : ℕ) (values : List (Ve
   pub rules : (i : ℕ) (d : Vec Shared Global) → i < a.finished → AreRulesOf braid (m + i) (slice_index_or values i d).items
   pub going : (i : ℕ) → suc i < a.finished → end_after braid limit rows (m + i) ≡ None
   pub full : a.end ≡ None → a.finished ≡ length values
+  pub short : a.end ≡ Some Starved → a.finished < length values
   pub starved : a.end ≡ Some Starved → (d : Vec Shared Global) → list_all (λ v. is_rule (worth v)) (slice_index_or values a.finished d).items ≡ false
   pub before : a.end ≡ Some Starved → (i : ℕ) → i < a.finished → end_after braid limit rows (m + i) ≡ None
   pub told : (a.end ≡ Some Starved) ⊎ ((k : ℕ) × (a.finished ≡ suc k) × (a.end ≡ end_after braid limit rows (m + k)))

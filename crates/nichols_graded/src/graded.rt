@@ -11,6 +11,7 @@ ghost use Rattle.nichols_graded.specs.Factors.{factors_of};
 ghost use Rattle.nichols_layout.specs.declared.TheConstants.{MOST_WINDOW};
 ghost use Rattle.nichols_layout.specs.Keys.{AreLists};
 ghost use Rattle.nichols_crew.specs.Counting.{HasCounted, block_count};
+ghost use Rattle.nichols_graded.specs.declared.ends.End.TheVariants.{Starved};
 ghost use Rattle.nichols_graded.specs.Ahead.{AreRulesOf};
 ghost use Rattle.nichols_graded.specs.Graded.{first_degree, IsGraded, IsOpenWhereStarved, TellsEnd};
 
@@ -91,9 +92,10 @@ impl Graded {
     ///
     /// The end is given in the call in which the last degree is finished; where degree 1 is stopped, so that degree 0 is the only
     /// one, in the first call. What was made beyond the end is dropped. `Starved` is given where there was no memory for a block of
-    /// the next degree, which isn't finished then, nor is any behind it. After an error the algebra is as it was, and the call may
-    /// be made again. All that is needed after the last publication is made before the first take, so an error comes before any block
-    /// is made, or where there is no memory to close the shelf; the gate is given no shelf then.
+    /// the next degree, which isn't finished then, nor is any behind it; the blocks of that degree are published all the same. After an
+    /// error the algebra is as it was, and the call may be made again. All that is needed after the last publication is made before the
+    /// first take, so an error comes before any block is made, or where there is no memory to close the shelf; the gate is given no
+    /// shelf then.
     pub fn advance<R: Threads + Sync, G: Gate + Sync>(
         &mut self,
         rt: &R,
@@ -114,6 +116,7 @@ impl Graded {
         ensures unreached { IfOk result (λ a. IsOpenWhereStarved self.new a.end) }
         ensures ended { IfOk result (λ a. self.new.ended ≡ is_some a.end) }
         ensures counted { IfOk result (λ a. HasCounted (block_count self.old.braid (suc self.old.last) a.finished) (G.count gate.old) (G.count gate.new)) }
+        ensures made { IfOk result (λ a. a.end ≡ Some Starved → HasCounted (block_count self.old.braid (suc self.old.last) (suc a.finished)) (G.count gate.old) (G.count gate.new)) }
         ensures kept { OnErr result (self.new ≡ self.old) }
         ensures uncounted { OnErr result (G.count gate.new ≡ G.count gate.old) }
     {

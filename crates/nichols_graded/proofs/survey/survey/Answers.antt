@@ -31,6 +31,7 @@ returns-then-is_some c =
             | then-is_some-via-then-is_some w ↦ absurd (some_is_not_none c.end_after-end.result none (sym c.is_some.ensures ∙ w.if-is_some.true))
             | then-is_some-via-else-is_some+then-i-values w ↦ w.if-i-values.true
           ];
+      short = λ e. absurd (never_starved b c.args.limits.0 c.args.limits.1 (c.args.first + i) (sym ends ∙ e));
       starved = λ e. absurd (never_starved b c.args.limits.0 c.args.limits.1 (c.args.first + i) (sym ends ∙ e));
       before = λ e. absurd (never_starved b c.args.limits.0 c.args.limits.1 (c.args.first + i) (sym ends ∙ e));
       told = inr (i, next, ends);

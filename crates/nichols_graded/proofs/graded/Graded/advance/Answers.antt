@@ -112,3 +112,13 @@ returns-clause-counted g c =
     let size : length c.as_slice-2.result.now ≡ n = ap length c.as_slice-2.ensures.value ∙ c.in_ok-values.ensures.values.count in
     subst (λ (v : GradedValue). HasCounted (block_count v.braid (suc v.last) c.survey-advance.result.finished) (g.G.Gate.count c.args.gate.now) (g.G.Gate.count c.degree_values.new.gate)) c.self.view_is
     (counted_within b m n c.survey-advance.result.finished (g.G.Gate.count c.args.gate.now) (g.G.Gate.count c.degree_values.new.gate) (omega (arith, most, size)) c.in_ok-values.ensures.counted)
+
+pub returns-clause-made : goal.returns-clause-made
+returns-clause-made g c starved =
+    let b = c.self.inside.levels.braid in
+    let m : ℕ = suc c.self.inside.levels.last in
+    let n : ℕ = length (take c.fewer-count.result c.deref.result.now) in
+    let short = c.survey-advance.ensures.short starved in
+    let size : length c.as_slice-2.result.now ≡ n = ap length c.as_slice-2.ensures.value ∙ c.in_ok-values.ensures.values.count in
+    subst (λ (v : GradedValue). HasCounted (block_count v.braid (suc v.last) (suc c.survey-advance.result.finished)) (g.G.Gate.count c.args.gate.now) (g.G.Gate.count c.degree_values.new.gate)) c.self.view_is
+    (counted_within b m n (suc c.survey-advance.result.finished) (g.G.Gate.count c.args.gate.now) (g.G.Gate.count c.degree_values.new.gate) (omega (arith, short, size)) c.in_ok-values.ensures.counted)
