@@ -1,0 +1,35 @@
+//! Why the program stops.
+
+ghost use Rattle.std.specs.Prelude.{◌≡◌};
+ghost use Rattle.nichols_example.specs.declared.failure.Failure.TheVariants.{Memory};
+
+use std::alloc::{AllocError, AllocFailed};
+
+/// Why the program stops before its last line.
+#[derive(Clone, Copy, Debug, PartialEq, Eq)]
+pub enum Failure {
+    /// The tables are no braid over the field.
+    Tables,
+    /// A text is no expression over the letters of the braid.
+    Text,
+    /// There was no memory.
+    Memory,
+    /// The sink failed.
+    Unwritten,
+}
+
+impl From<AllocError> for Failure {
+    ghost from_gives = { λ _ failure. failure ≡ Memory };
+
+    fn from(_error: AllocError) -> Failure {
+        Failure::Memory
+    }
+}
+
+impl<T: Drop> From<AllocFailed<T>> for Failure {
+    ghost from_gives = { λ _ failure. failure ≡ Memory };
+
+    fn from(_error: AllocFailed<T>) -> Failure {
+        Failure::Memory
+    }
+}
