@@ -27,12 +27,12 @@ use Rattle.nichols_echelon.specs.Sums.{IsDrained, IsSumRow}
 use Rattle.nichols_rows.specs.CombinationAt.{combination_at}
 use Rattle.nichols_value.specs.declared.spot.Spot.{Spot}
 use Rattle.nichols_value.specs.Block.{lower_basis}
-use Rattle.nichols_value.specs.Kept.{IsSpot}
+use Rattle.nichols_value.specs.Kept.{IsSpot, candidate_at}
 use Rattle.nichols_value.proofs.Blocks.{derived_in_block, from_lower_basis}
 use Rattle.nichols_value.proofs.FormCells.{cells_of_form, none_among}
 use Rattle.nichols_value.proofs.RuleEntries.{right_word}
 use Rattle.nichols_value.proofs.KeptRows.{no_rows}
-use Rattle.nichols_block.specs.Rows.{AreNewDerivatives, AreRowsOf, AreSpotsOf, AreSums, HasNewRow, candidate_at, lower_words, rows_by}
+use Rattle.nichols_block.specs.Rows.{AreNewDerivatives, AreRowsOf, AreSpotsOf, AreSums, HasNewRow, lower_words, rows_by}
 use Rattle.nichols_block.specs.Words.{block_new_words}
 use Rattle.nichols_block.proofs.SpotsBelow.{spot_letter, spot_place, words_at_letter}
 use Rattle.nichols_block.proofs.SumForms.{below_by_entries}

@@ -1,5 +1,5 @@
 -- The rule of degree 0.
-use Rattle.std.proofs.Common.{◌≡◌, ℕ, zero, suc, ◌+◌, cond, List, [], ◌∷◌, ◌++◌, length, map, filter, replicate, refl, sym, ◌∙◌, ap, ap₂, subst, arith, Some}
+use Rattle.std.proofs.Common.{◌≡◌, ℕ, zero, suc, ◌+◌, ◌-◌, cond, get_or, List, [], ◌∷◌, ◌++◌, length, map, filter, replicate, refl, sym, ◌∙◌, ap, ap₂, subst, arith, Some}
 use Rattle.std.proofs.lemmas.List.{map-append, replicate_more, length-replicate}
 use Rattle.std.specs.List.{AllByRecursion}
 use Rattle.std.proofs.lemmas.List.Elements.{All-replicate, recursion_from_All}
@@ -19,7 +19,7 @@ use Rattle.nichols_echelon.specs.Rows.{RowsValue}
 use Rattle.nichols_value.specs.declared.key.BlockKey.{BlockKey}
 use Rattle.nichols_value.specs.declared.spot.Spot.{Spot}
 use Rattle.nichols_value.specs.Block.{block_basis, block_relations, lower_basis, left_lower_basis}
-use Rattle.nichols_value.specs.Rule.{lean_rule_of, upper_of, rule_of, right_forms, left_forms, block_derivs}
+use Rattle.nichols_value.specs.Rule.{by_letter, lean_rule_of, upper_of, rule_of, right_forms, left_forms, block_derivs}
 use Rattle.nichols_value.specs.Kept.{AreFormRows, AreFormRowsOfEach, HaveRowEach, AllShort, IsShaped, IsSpot, IsUpperShaped, forms_over, forms_over_each, rule_by, upper_by}
 use Rattle.nichols_value.proofs.Blocks.{no_lower_basis}
 use Rattle.nichols_value.proofs.KeptRows.{no_rows}
@@ -84,6 +84,11 @@ row_each (suc n) = (refl, row_each n)
 no_rows_shape : (w : ℕ) → AreFormRows w no_rows
 no_rows_shape w = record { closed = refl; shape = tt; below = tt }
 
+none_by : (n k : ℕ) → get_or (no_words_of n) k [] ≡ []
+none_by zero k = refl
+none_by (suc n) zero = refl
+none_by (suc n) (suc k) = none_by n k
+
 -- ---- together
 
 pub lowest_shape : (n : ℕ) (key : BlockKey) (basis : List (List ℕ)) (below : List (List (List ℕ))) (right : List RowsValue) (spots : List Spot) → key.product ≡ up_to n → basis ≡ [] ∷ [] → below ≡ replicate n [] →
@@ -96,6 +101,10 @@ lowest_shape n key basis below right spots product b l r s = record {
   forms = subst (AllByRecursion (AreFormRows (length basis))) (sym r) (recursion_from_All (AreFormRows (length basis)) (replicate n no_rows) (All-replicate (AreFormRows (length basis)) n no_rows (no_rows_shape (length basis))));
   rows = subst (λ ls. HaveRowEach ls right) (sym l) (subst (λ rs. HaveRowEach (no_words_of n) rs) (sym r) (row_each n));
   inside = subst (λ (ss : List Spot). AllByRecursion (IsSpot below) ss) (sym s) tt;
+  whole = λ x spot none.
+      let (some, letter, place) = spot in
+      let nothing : length (by_letter below x.letter) ≡ 0 = ap (λ ls. length (by_letter ls x.letter)) l ∙ ap length (none_by n (x.letter - 1)) in
+      absurd (omega (arith, place, nothing));
 }
 
 pub lowest_upper : (n : ℕ) (basis : List (List ℕ)) (below : List (List (List ℕ))) (derivs left : List RowsValue) → basis ≡ [] ∷ [] → below ≡ replicate n [] →

@@ -13,13 +13,13 @@ use Rattle.nichols_rows.specs.Places.{independent_in}
 use Rattle.nichols_value.specs.declared.ends.Ends.{Ends}
 use Rattle.nichols_value.specs.declared.spot.Spot.{Spot}
 use Rattle.nichols_value.specs.Block.{left_lower_basis, lower_basis}
-use Rattle.nichols_value.specs.Kept.{AreEnds, AreEndsOf, IsSpot}
+use Rattle.nichols_value.specs.Kept.{AreEnds, AreEndsOf, IsSpot, candidate_at}
 use Rattle.nichols_value.specs.Rule.{by_letter}
 use Rattle.nichols_value.proofs.LeftBlocks.{left_lower_is_lower}
 use Rattle.nichols_value.proofs.RuleEntries.{letter_count}
 use Rattle.nichols_block.specs.declared.words.Listed.{Listed}
 use Rattle.nichols_block.specs.Gathered.{word_in}
-use Rattle.nichols_block.specs.Rows.{AreSpotsOf, candidate_at, lower_words}
+use Rattle.nichols_block.specs.Rows.{AreSpotsOf, lower_words}
 use Rattle.nichols_block.specs.Words.{AreBackPlaces, AreNewWords, IsBackPlace, IsFrontPlace, IsListedEntry, block_new_words, but_last, ends_of, new_word}
 use Rattle.nichols_block.proofs.ListedWords.{IsListedWord, but_last-push, from_listed}
 use Rattle.nichols_block.proofs.Passes.{last_back}

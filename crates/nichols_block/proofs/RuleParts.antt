@@ -1,18 +1,20 @@
 -- The rule of a block from its parts.
 use Rattle.std.proofs.Common.{◌≡◌, ℕ, suc, ◌+◌, ◌-◌, ◌<◌, ◌≤◌, List, [], ◌∷◌, ◌++◌, map, length, get_or, take, refl, sym, ◌∙◌, ap, ap₂, subst, arith, Some}
-use Rattle.std.specs.List.{AllByRecursion}
+use Rattle.std.specs.List.{AllByRecursion, Contains}
 use Rattle.std.proofs.lemmas.List.{get_or-map, length-map, take_all, take_more, map-append, get_or_default}
 use Rattle.std.proofs.lemmas.List.Elements.{recursion_from_All}
 use Rattle.nichols_tensor.specs.declared.TheConstants.{WORD_LIMIT}
 use Rattle.nichols_tensor.specs.Combination.{Combination}
+use Rattle.nichols_tensor.specs.Positions.{word_at}
 use Rattle.nichols_tensor.specs.Relation.{PlainRelation}
 use Rattle.nichols_tensor.specs.Words.{up_to}
 use Rattle.nichols_tensor.specs.WordOrder.{IsRising}
-use Rattle.nichols_tensor.proofs.Entries.{from_map}
+use Rattle.nichols_tensor.proofs.Entries.{from_map, in_map}
 use Rattle.nichols_tensor.proofs.Tests.{all_of_entries}
-use Rattle.nichols_braid.specs.Braid.{BraidValue}
+use Rattle.nichols_braid.specs.Braid.{BraidValue, IsBraid, IsLetter}
 use Rattle.nichols_braid.specs.Forms.{derived_form}
 use Rattle.nichols_braid.specs.Kernel.{is_killed}
+use Rattle.nichols_braid.specs.Products.{products}
 use Rattle.nichols_echelon.specs.Cells.{AllBelow, IsRow}
 use Rattle.nichols_echelon.specs.Rows.{RowsValue}
 use Rattle.nichols_echelon.specs.declared.rows.Place.{Place}
@@ -23,9 +25,10 @@ use Rattle.nichols_rows.proofs.Split.{independent_in-map}
 use Rattle.nichols_value.specs.declared.key.BlockKey.{BlockKey}
 use Rattle.nichols_value.specs.declared.spot.Spot.{Spot}
 use Rattle.nichols_value.specs.Block.{block_basis, block_relations, lower_basis}
-use Rattle.nichols_value.specs.Kept.{AllShort, AreFormRows, AreFormRowsOfEach, HaveRowEach, IsShaped, IsSpot, IsUpperShaped, forms_over, forms_over_each, relation_at, rule_by, upper_by}
-use Rattle.nichols_value.specs.Rule.{block_derivs, lean_rule_of, left_forms, right_forms, rule_of, upper_of}
-use Rattle.nichols_value.proofs.Blocks.{block_basis_rises, lower_basis_rises}
+use Rattle.nichols_value.specs.Kept.{AllShort, AreFormRows, AreFormRowsOfEach, HaveRowEach, IsShaped, IsSpot, IsUpperShaped, candidate_at, forms_over, forms_over_each, relation_at, rule_by, upper_by}
+use Rattle.nichols_value.specs.Rule.{block_derivs, by_letter, lean_rule_of, left_forms, right_forms, rule_of, upper_of}
+use Rattle.nichols_value.proofs.Blocks.{block_basis_rises, lower_basis_rises, relation_of}
+use Rattle.nichols_value.proofs.LookedUp.{form_in_table}
 use Rattle.nichols_value.proofs.RuleEntries.{derivs_count, letter_count, letter_entry, lower_words_are_short, right_count}
 use Rattle.nichols_value.proofs.KeptRows.{no_rows}
 use Rattle.nichols_block.specs.Forms.{AreFormsOf}
@@ -155,9 +158,24 @@ all_rows P n lists size h =
     same : (k : ℕ) (d : RowsValue) → k < length lists → get_or lists k no_rows ≡ get_or lists k d
     same k d less = get_or_default lists k no_rows d less
 
-pub parts_shape : (braid : BraidValue) (key : BlockKey) (basis : List (List ℕ)) (below : List (List (List ℕ))) (rights : List RowsValue) (spots : List Spot) (derivs lefts : List RowsValue) →
+-- a word of a lower block with its letter behind is least or at the spot of a relation
+parts_whole : (braid : BraidValue) → IsBraid braid → (m : ℕ) (g : List ℕ) → Contains (products braid m) g → (basis : List (List ℕ)) (below : List (List (List ℕ))) (rights : List RowsValue) (spots : List Spot) (derivs lefts : List RowsValue) →
+    AreParts braid m g basis below rights spots derivs lefts → (s : Spot) → IsSpot below s → (Contains basis (candidate_at below s) → ⊥) → Contains (map (candidate_at below) spots) (candidate_at below s)
+parts_whole braid is m g there basis below rights spots derivs lefts p s (some, letter, place) none =
+    let ws : List (List (List ℕ)) = map (lower_basis braid m g) (up_to braid.letters) in
+    let fs : List (List Combination) = map (right_forms braid m g) (up_to braid.letters) in
+    let la : IsLetter braid s.letter = (omega (arith, some), omega (arith, some, letter, ap length p.lists, letter_count (lower_basis braid m g) braid.letters)) in
+    let words : by_letter below s.letter ≡ lower_basis braid m g s.letter = ap (λ ls. by_letter ls s.letter) p.lists ∙ letter_entry (lower_basis braid m g) braid.letters s.letter la in
+    let word : candidate_at below s ≡ word_at (lower_basis braid m g s.letter) s.place ++ s.letter ∷ [] = ap (λ us. word_at us s.place ++ s.letter ∷ []) words in
+    let related : Contains (block_relations braid m g) (relation_of braid m (word_at (lower_basis braid m g s.letter) s.place ++ s.letter ∷ [])) =
+    form_in_table braid is m g there s.letter s.place la (subst (λ us. s.place < length us) words place) (λ i. none (subst (λ us. Contains us (candidate_at below s)) (sym p.least) (subst (Contains (block_basis braid m g)) (sym word) i))) in
+    let (x, i, e) = from_map (relation_at ws fs) _ spots (subst (λ (ts : List PlainRelation). Contains ts (relation_of braid m (word_at (lower_basis braid m g s.letter) s.place ++ s.letter ∷ []))) (sym p.forms.table) related) in
+    let same : candidate_at below x ≡ candidate_at below s = ap (λ ls. candidate_at ls x) p.lists ∙ sym (ap (λ (r : PlainRelation). r.candidate) e) ∙ sym word in
+    subst (Contains (map (candidate_at below) spots)) same (in_map (candidate_at below) x spots i)
+
+pub parts_shape : (braid : BraidValue) → IsBraid braid → (key : BlockKey) → Contains (products braid key.degree) key.product → (basis : List (List ℕ)) (below : List (List (List ℕ))) (rights : List RowsValue) (spots : List Spot) (derivs lefts : List RowsValue) →
     AreParts braid key.degree key.product basis below rights spots derivs lefts → IsShaped key basis below rights spots
-parts_shape braid key basis below rights spots derivs lefts p =
+parts_shape braid is key there basis below rights spots derivs lefts p =
     let m : ℕ = key.degree in
     let g : List ℕ = key.product in
     let count : length below ≡ braid.letters = ap length p.lists ∙ letter_count (lower_basis braid m g) braid.letters in
@@ -175,6 +193,7 @@ parts_shape braid key basis below rights spots derivs lefts p =
           ∙ row_count_is (block_basis braid m g) (right_forms braid m g (k + 1)) (rows_by rights (k + 1)) (p.forms.right.each (k + 1) (omega arith, omega (arith, inside)))
           ∙ right_count braid m g (k + 1) ∙ ap length (sym (ap (λ ls. get_or ls k []) p.lists ∙ entry_of (lower_basis braid m g) braid.letters k inside)));
       inside = subst (λ ls. AllByRecursion (IsSpot ls) spots) (sym p.lists) p.forms.inside;
+      whole = parts_whole braid is m g there basis below rights spots derivs lefts p;
     }
 
 pub parts_upper : (braid : BraidValue) (key : BlockKey) (basis : List (List ℕ)) (below : List (List (List ℕ))) (rights : List RowsValue) (spots : List Spot) (derivs lefts : List RowsValue) →

@@ -17,11 +17,11 @@ use Rattle.nichols_echelon.specs.Cells.{Cell}
 use Rattle.nichols_echelon.specs.Sums.{sum_at}
 use Rattle.nichols_value.specs.declared.spot.Spot.{Spot}
 use Rattle.nichols_value.specs.Block.{block_basis, lower_basis}
-use Rattle.nichols_value.specs.Kept.{AreCellsOf, IsSpot}
+use Rattle.nichols_value.specs.Kept.{AreCellsOf, IsSpot, candidate_at}
 use Rattle.nichols_value.specs.Rule.{PlainRule, below_in, by_letter, derivs_in, right_forms, right_in, rule_of}
 use Rattle.nichols_value.proofs.Blocks.{from_block_basis, lower_basis_is, lower_basis_rises}
 use Rattle.nichols_value.proofs.RuleEntries.{basis_is, below_is, derivative, derivs_size, lean_of_whole, letter_count, letter_entry, right_is, right_size, right_word, word_form_is_normal}
-use Rattle.nichols_block.specs.Rows.{AreSums, candidate_at, lower_words, summed_forms}
+use Rattle.nichols_block.specs.Rows.{AreSums, lower_words, summed_forms}
 use Rattle.nichols_block.proofs.DerivedSums.{right_sums, sums_of_others, sums_of_own}
 use Rattle.nichols_block.proofs.LowerBelow.{lower_below}
 

@@ -15,8 +15,8 @@ use Rattle.nichols_echelon.specs.Rows.{RowsValue}
 use Rattle.nichols_echelon.specs.Sums.{IsZeroFrom, sum_at}
 use Rattle.nichols_value.specs.declared.spot.Spot.{Spot}
 use Rattle.nichols_value.specs.Block.{block_basis, lower_basis}
-use Rattle.nichols_value.specs.Rule.{PlainRule, block_derivs, by_letter, left_forms, right_forms, rule_of}
-use Rattle.nichols_value.specs.Kept.{AreCellsOf, AreFormRows, IsSpot, forms_over}
+use Rattle.nichols_value.specs.Rule.{PlainRule, block_derivs, left_forms, right_forms, rule_of}
+use Rattle.nichols_value.specs.Kept.{AreCellsOf, AreFormRows, IsSpot, candidate_at, forms_over}
 use Rattle.nichols_block.specs.Words.{block_new_words}
 
 -- closed rows over these words that are these forms
@@ -48,10 +48,6 @@ pub record AreLeftRows (braid : BraidValue) (m : ℕ) (g : List ℕ) (lists : Li
 -- by letter, the words of the lower blocks
 abbrev pub lower_words : BraidValue → ℕ → List ℕ → List (List (List ℕ))
 lower_words braid m g = map (lower_basis braid m g) (up_to braid.letters)
-
--- the word at a spot, `u b` for the letter b and the word u at its place below
-abbrev pub candidate_at : List (List (List ℕ)) → Spot → List ℕ
-candidate_at below s = word_at (by_letter below s.letter) s.place ++ s.letter ∷ []
 
 -- the rule of the lower block by a letter, or none where it has no words
 abbrev pub IsRuleBelow : BraidValue → ℕ → List ℕ → ℕ → Option (Bor PlainRule) → Type 0

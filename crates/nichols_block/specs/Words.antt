@@ -12,8 +12,7 @@ use Rattle.nichols_braid.specs.Product.{has_product}
 use Rattle.nichols_value.specs.declared.ends.Ends.{Ends}
 use Rattle.nichols_value.specs.declared.spot.Spot.{Spot}
 use Rattle.nichols_value.specs.Block.{left_lower_basis, lower_basis}
-use Rattle.nichols_value.specs.Kept.{IsSpot}
-use Rattle.nichols_value.specs.Rule.{by_letter}
+use Rattle.nichols_value.specs.Kept.{IsSpot, candidate_at}
 use Rattle.nichols_block.specs.declared.words.Listed.{Listed}
 
 -- a word without its last letter
@@ -101,7 +100,7 @@ AreBackPlaces words _ _ = ⊥
 -- new words, the spots that they stand at, and their places without their first letters
 pub record AreNewWords (braid : BraidValue) (m : ℕ) (g : List ℕ) (ws : List (List ℕ)) (stands : List Spot) (ks : List ℕ) : Type 0 where
   pub inside : AllByRecursion (IsSpot (map (lower_basis braid m g) (up_to braid.letters))) stands
-  pub words : map (λ s. word_at (by_letter (map (lower_basis braid m g) (up_to braid.letters)) s.letter) s.place ++ s.letter ∷ []) stands ≡ ws
+  pub words : map (candidate_at (map (lower_basis braid m g) (up_to braid.letters))) stands ≡ ws
   pub backs : AreBackPlaces (left_lower_basis braid m g) ws ks
 
 -- the places of the words at spots without their end letters

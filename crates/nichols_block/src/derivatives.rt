@@ -13,10 +13,10 @@ ghost use Rattle.nichols_braid.specs.Product.{product_before};
 ghost use Rattle.nichols_echelon.specs.Cells.{AllBelow, AllElements};
 ghost use Rattle.nichols_echelon.specs.Sums.{IsZero};
 ghost use Rattle.nichols_value.specs.Block.{lower_basis};
-ghost use Rattle.nichols_value.specs.Kept.{IsSpot};
+ghost use Rattle.nichols_value.specs.Kept.{IsSpot, candidate_at};
 ghost use Rattle.nichols_value.specs.Rule.{right_in, rule_of};
 ghost use Rattle.nichols_block.specs.Lower.{AreLowerRules, IsUpperBlock};
-ghost use Rattle.nichols_block.specs.Rows.{AreNewDerivatives, AreRowsAt, AreRulesBelow, AreSpotsOf, AreSums, HasNewRow, IsRuleBelow, candidate_at, lower_words, summed_forms};
+ghost use Rattle.nichols_block.specs.Rows.{AreNewDerivatives, AreRowsAt, AreRulesBelow, AreSpotsOf, AreSums, HasNewRow, IsRuleBelow, lower_words, summed_forms};
 
 use crate::MOST_PLACES;
 use crate::empty::empty_rows;

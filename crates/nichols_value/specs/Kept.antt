@@ -1,6 +1,6 @@
 -- How a rule is kept: rows of cells, whose columns are places in lists of words.
 use Rattle.std.specs.Prelude.{◌≡◌, ◌≤◌, ◌<◌, ◌-◌, ℕ, List, [], ◌∷◌, ◌++◌, map, length, Option, slice_index, slice_index_or}
-use Rattle.std.specs.List.{AllByRecursion}
+use Rattle.std.specs.List.{AllByRecursion, Contains}
 use Rattle.nichols_tensor.specs.declared.TheConstants.{WORD_LIMIT}
 use Rattle.nichols_tensor.specs.Combination.{Combination}
 use Rattle.nichols_tensor.specs.Positions.{word_at}
@@ -24,10 +24,14 @@ forms_over_each [] rows = []
 forms_over_each (ws ∷ lists) [] = []
 forms_over_each (ws ∷ lists) (r ∷ rows) = forms_over ws r ∷ forms_over_each lists rows
 
+-- the word at a spot, `u b` for the letter b and the word u at its place below
+abbrev pub candidate_at : List (List (List ℕ)) → Spot → List ℕ
+candidate_at below s = word_at (by_letter below s.letter) s.place ++ s.letter ∷ []
+
 -- the relation at a spot
 abbrev pub relation_at : List (List (List ℕ)) → List (List Combination) → Spot → PlainRelation
 relation_at below right s = record {
-  candidate = word_at (by_letter below s.letter) s.place ++ s.letter ∷ [];
+  candidate = candidate_at below s;
   form = slice_index_or (by_letter right s.letter) s.place [];
 }
 
@@ -72,7 +76,7 @@ AllShort ws = AllByRecursion (λ w. length w < WORD_LIMIT) ws
 abbrev pub IsSpot : List (List (List ℕ)) → Spot → Type 0
 IsSpot below s = (0 < s.letter) × (s.letter - 1 < length below) × (s.place < length (by_letter below s.letter))
 
--- the parts of a rule are of one shape
+-- the parts of a rule are of one shape, and a word of a lower block with its letter behind is in the basis or at a spot
 pub record IsShaped (key : BlockKey) (basis : List (List ℕ)) (below : List (List (List ℕ))) (right : List RowsValue) (spots : List Spot) : Type 0 where
   pub letters : length below ≡ length key.product
   pub rising : IsRising basis
@@ -81,6 +85,7 @@ pub record IsShaped (key : BlockKey) (basis : List (List ℕ)) (below : List (Li
   pub forms : AllByRecursion (AreFormRows (length basis)) right
   pub rows : HaveRowEach below right
   pub inside : AllByRecursion (IsSpot below) spots
+  pub whole : (s : Spot) → IsSpot below s → (Contains basis (candidate_at below s) → ⊥) → Contains (map (candidate_at below) spots) (candidate_at below s)
 
 -- and so are those that serve the degree above
 pub record IsUpperShaped (basis : List (List ℕ)) (below : List (List (List ℕ))) (derivs left : List RowsValue) : Type 0 where

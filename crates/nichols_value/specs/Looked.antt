@@ -1,5 +1,5 @@
 -- What a rule says of a word.
-use Rattle.std.specs.Prelude.{◌≡◌, ◌≤◌, ◌<◌, ℕ, List, [], ◌∷◌, ◌++◌, length, slice_index_or, Option, None, Some}
+use Rattle.std.specs.Prelude.{◌≡◌, ◌↔◌, ◌≤◌, ◌<◌, ℕ, List, [], ◌∷◌, ◌++◌, length, slice_index_or, Option, None, Some}
 use Rattle.std.specs.List.{Contains}
 use Rattle.nichols_tensor.specs.Combination.{Combination}
 use Rattle.nichols_tensor.specs.Positions.{word_at}
@@ -13,11 +13,12 @@ use Rattle.nichols_value.specs.Rule.{PlainRule, below_in, right_in}
 abbrev pub with_form : List ℕ → Combination → PlainRelation
 with_form w f = record { candidate = w; form = f }
 
--- it is in the basis, or it is the candidate of a relation with this form, or it is neither
-abbrev pub IsLooked : PlainRule → List ℕ → Looked → Type 0
-IsLooked r w Basis = Contains r.basis w
-IsLooked r w (Form f) = Contains r.table (with_form w f)
-IsLooked r w NotHere = (Contains r.basis w → ⊥) × (Contains (candidates_of r.table) w → ⊥)
+-- the answer says of the word that it is in the basis exactly where it is; that it is the candidate of a relation with some form
+-- exactly where it is, and isn't in the basis; and that it is neither exactly where it is neither
+pub record IsLooked (r : PlainRule) (w : List ℕ) (looked : Looked) : Type 0 where
+  pub basis : (looked ≡ Basis) ↔ Contains r.basis w
+  pub form : (f : Combination) → (looked ≡ Form f) ↔ ((Contains r.basis w → ⊥) × Contains r.table (with_form w f))
+  pub not_here : (looked ≡ NotHere) ↔ ((Contains r.basis w → ⊥) × (Contains (candidates_of r.table) w → ⊥))
 
 -- the word is the k-th word of the lower block by b with b behind, and this is its form
 pub record IsFormAt (r : PlainRule) (w : List ℕ) (f : Combination) (b k : ℕ) : Type 0 where

@@ -1,11 +1,6 @@
 //! What a rule says of a word.
 
-ghost use Rattle.std.specs.Prelude.{ℕ, List};
-ghost use Rattle.std.specs.List.{Contains};
-ghost use Rattle.nichols_braid.specs.Braid.{BraidValue, IsBraid};
-ghost use Rattle.nichols_braid.specs.Products.{products};
 ghost use Rattle.nichols_value.specs.Looked.{IsFormBelow, IsLooked};
-ghost use Rattle.nichols_value.specs.Rule.{IsRuleOf};
 
 use crate::form::{Form, Looked};
 use crate::rule::BlockRule;
@@ -28,10 +23,11 @@ impl BlockRule {
 
     /// What the rule says of a word: a search by the word order, which takes no memory.
     ///
-    /// It is in the basis, or it is the candidate of a relation, with the relation's form, or neither.
+    /// It is in the basis, or it isn't and is the candidate of a relation, with the relation's form, or neither.
     pub fn look(&self, word: &Word) -> Looked<'_>
-        ensures { (braid : BraidValue) (m : ℕ) (g : List ℕ) → IsBraid braid → Contains (products braid m) g → IsRuleOf braid m g self.now → IsLooked self.now word.now result }
+        ensures { IsLooked self.now word.now result }
     {
+        let _block = &self.key;
         if place_of(self.basis(), word).is_some() {
             return Looked::Basis;
         }

@@ -30,7 +30,7 @@ pub struct Upper {
 /// The rule of a block: its least words, its relations and the normal forms of its candidates, as rows of places.
 #[derive(Drop)]
 pub struct BlockRule {
-    key: BlockKey,
+    pub(crate) key: BlockKey,
     basis: Words,
     below: Vec<Words>,
     right: Vec<Rows>,

@@ -2,7 +2,8 @@ use Rattle.std.proofs.Common.{◌<◌, List, ℕ, length, arith, subst}
 use Rattle.std.proofs.lemmas.Result.{on_ok_weaker}
 use Rattle.nichols_value.specs.Block.{lower_basis}
 use Rattle.nichols_value.proofs.Blocks.{lower_basis_rises}
-use Rattle.nichols_block.specs.Rows.{candidate_at, lower_words}
+use Rattle.nichols_value.specs.Kept.{candidate_at}
+use Rattle.nichols_block.specs.Rows.{lower_words}
 use Rattle.nichols_block.proofs.SpotsBelow.{spot_letter, spot_place}
 use Rattle.nichols_block.proofs.DerivedRows.{derived_in_next, row_of_sums, spot_in_block}
 use Rattle.nichols_block.proofs.derivatives.push_derivative.Goals as goal

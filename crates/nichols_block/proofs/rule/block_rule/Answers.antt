@@ -13,7 +13,7 @@ pub of-requires : goal.of-requires
 of-requires c = subst IsRising (sym (least_words _ _ _ _ _ _ _ _ c.in_ok-least.ensures c.as_slice-4.ensures.value c.as_slice-5.ensures.value c.in_ok-new.ensures.words c.in_ok-places.ensures)) (block_basis_rises c.args.braid.now c.args.key.now.degree c.args.key.now.product)
 
 pub new-requires-clause-shape : goal.new-requires-clause-shape
-new-requires-clause-shape c = parts_shape _ c.args.key.now _ _ _ _ _ _ (parts_of _ c.args.key.now _ _ _ _ _ _ c.requires.block (c.in_ok-basis.ensures ∙ least_words _ _ _ _ _ _ _ _ c.in_ok-least.ensures c.as_slice-4.ensures.value c.as_slice-5.ensures.value c.in_ok-new.ensures.words c.in_ok-places.ensures) c.in_ok-below.ensures c.in_ok-forms.ensures c.in_ok-derivs.ensures)
+new-requires-clause-shape c = parts_shape _ c.field-field.ensures.braid c.args.key.now c.requires.block.there _ _ _ _ _ _ (parts_of _ c.args.key.now _ _ _ _ _ _ c.requires.block (c.in_ok-basis.ensures ∙ least_words _ _ _ _ _ _ _ _ c.in_ok-least.ensures c.as_slice-4.ensures.value c.as_slice-5.ensures.value c.in_ok-new.ensures.words c.in_ok-places.ensures) c.in_ok-below.ensures c.in_ok-forms.ensures c.in_ok-derivs.ensures)
 
 pub new-requires-clause-upper : goal.new-requires-clause-upper
 new-requires-clause-upper c = parts_upper _ c.args.key.now _ _ _ _ _ _ (parts_of _ c.args.key.now _ _ _ _ _ _ c.requires.block (c.in_ok-basis.ensures ∙ least_words _ _ _ _ _ _ _ _ c.in_ok-least.ensures c.as_slice-4.ensures.value c.as_slice-5.ensures.value c.in_ok-new.ensures.words c.in_ok-places.ensures) c.in_ok-below.ensures c.in_ok-forms.ensures c.in_ok-derivs.ensures)

@@ -1,8 +1,12 @@
-use Rattle.std.proofs.Common.{◌≡◌, ◌<◌, ◌≤◌, ◌+◌, ◌∙◌, ℕ, zero, suc, List, [], ◌∷◌, ◌++◌, ap, arith, drop, get_or, length, refl, subst, sym}
+use Rattle.std.proofs.Common.{rules, ◌≡◌, ◌<◌, ◌≤◌, ◌+◌, ◌-◌, ◌∙◌, ℕ, zero, suc, List, [], ◌∷◌, ◌++◌, ap, arith, drop, get_or, length, map, refl, subst, sym}
+use Rattle.std.specs.List.{Contains}
 use Rattle.nichols_tensor.specs.Positions.{word_at}
-use Rattle.nichols_value.specs.Kept.{AreEnds, AreEndsOf}
+use Rattle.nichols_echelon.specs.Rows.{RowsValue}
+use Rattle.nichols_value.specs.Kept.{AreEnds, AreEndsOf, IsShaped, candidate_at}
 use Rattle.nichols_value.specs.Rule.{by_letter}
 use Rattle.nichols_value.specs.declared.ends.Ends.{Ends}
+use Rattle.nichols_value.specs.declared.key.BlockKey.{BlockKey}
+use Rattle.nichols_value.specs.declared.spot.Spot.{Spot}
 use Rattle.nichols_value.proofs.tests.rule.Goals as goal
 
 -- the words 1 and 2, and their lists
@@ -47,3 +51,42 @@ all_ends = (
 
 pub new-requires-clause-ends : goal.new-requires-clause-ends
 new-requires-clause-ends c = rw (c.identity.ensures.value, c.in_ok-basis.ensures, c.in_ok-below.ensures, c.in_ok-ends.ensures) all_ends
+
+-- ---- its shape
+
+abbrev least : List (List ℕ)
+least = (1 ∷ 1 ∷ []) ∷ (1 ∷ 2 ∷ []) ∷ (2 ∷ 2 ∷ []) ∷ []
+
+abbrev two_one : List Spot
+two_one = record { letter = 1; place = 1 } ∷ []
+
+-- a word of two letters is in the basis or it is 2.1
+whole_at : (b k : ℕ) → 0 < b → b - 1 < 2 → k < length (by_letter (ones ∷ ones ∷ []) b) → (Contains least (word_at (by_letter (ones ∷ ones ∷ []) b) k ++ b ∷ []) → ⊥) →
+    Contains (map (candidate_at (ones ∷ ones ∷ [])) two_one) (word_at (by_letter (ones ∷ ones ∷ []) b) k ++ b ∷ [])
+whole_at zero k some letter place none = absurd (omega (arith, some))
+whole_at (suc zero) zero some letter place none = absurd (none (0, omega arith, refl))
+whole_at (suc zero) (suc zero) some letter place none = (0, omega arith, refl)
+whole_at (suc zero) (suc (suc k)) some letter place none = absurd (omega (arith, place))
+whole_at (suc (suc zero)) zero some letter place none = absurd (none (1, omega arith, refl))
+whole_at (suc (suc zero)) (suc zero) some letter place none = absurd (none (2, omega arith, refl))
+whole_at (suc (suc zero)) (suc (suc k)) some letter place none = absurd (omega (arith, place))
+whole_at (suc (suc (suc b))) k some letter place none = absurd (omega (arith, letter))
+
+abbrev form_rows : List RowsValue
+form_rows = record { rows = (record { column = 0; coefficient = 1 } ∷ []) ∷ (record { column = 1; coefficient = 1 } ∷ []) ∷ []; begun = [] }
+    ∷ record { rows = (record { column = 1; coefficient = 1 } ∷ []) ∷ (record { column = 2; coefficient = 1 } ∷ []) ∷ []; begun = [] } ∷ []
+
+shape : IsShaped (record { degree = 2; product = 1 ∷ 2 ∷ [] }) least (ones ∷ ones ∷ []) form_rows two_one
+shape = record {
+  letters = search rules;
+  rising = search rules;
+  lists_rise = search rules;
+  short = search rules;
+  forms = search rules;
+  rows = search rules;
+  inside = search rules;
+  whole = λ s spot none. let (some, letter, place) = spot in whole_at s.letter s.place some letter place none;
+}
+
+pub new-requires-clause-shape : goal.new-requires-clause-shape
+new-requires-clause-shape c = rw (c.identity.ensures.value, c.in_ok-basis.ensures, c.in_ok-below.ensures, c.in_ok-right.ensures, c.in_ok-spots.ensures) shape
