@@ -25,9 +25,9 @@ use Rattle.nichols_braid.proofs.BraidLaws.{killed_is_ideal_from_right, killed_is
 use Rattle.nichols_braid.proofs.LeftLaws.{killed_is_ideal_from_left}
 use Rattle.nichols_braid.proofs.SideForms.{left_form_is_normal, reads_earlier, right_form_is_normal}
 use Rattle.nichols_braid.proofs.Permutations.{apart_is_false}
-use Rattle.nichols_echelon.specs.Cells.{AllBelow, Cell, IsRow}
+use Rattle.nichols_echelon.specs.Cells.{AllBelow, AllNonzero, Cell, IsRow}
 use Rattle.nichols_echelon.specs.Cells.{AllElements as AllCellsElements}
-use Rattle.nichols_echelon.specs.Combination.{AllRowsBelow, AllRowsElements}
+use Rattle.nichols_echelon.specs.Combination.{AllRowsBelow, AllRowsElements, AreRows}
 use Rattle.nichols_echelon.specs.Rows.{RowsValue}
 use Rattle.nichols_rows.specs.CombinationAt.{combination_at}
 use Rattle.nichols_value.specs.declared.spot.Spot.{Spot}
@@ -198,7 +198,9 @@ table_more braid m g w rest spots b k lb less word related t = record {
 -- what a sum of rows takes
 pub record AreReady (k : FieldValue) (width : ℕ) (rows : List (List Cell)) (cells : List Cell) : Type 0 where
   pub factors : AllCellsElements k cells
+  pub nonzero : AllNonzero cells
   pub places : AllBelow (length rows) cells
+  pub shape : AreRows rows
   pub elements : AllRowsElements k rows
   pub below : AllRowsBelow width rows
 
@@ -233,7 +235,9 @@ read_side : (braid : BraidValue) → IsBraid braid → (n : ℕ) (g w s : List �
 read_side braid is n g w s rest us image test kept cells size over product word s_size s_over each before sum_of rising side are = record {
   ready = record {
     factors = form_cells_elements k us (normal_form is_killed braid n (single s)) cells (word_form_is_normal braid is n s s_size s_over).elements are;
+    nonzero = are.row.nonzero;
     places = read.below;
+    shape = side.rows.shape.shape;
     elements = side_elements k ws us image normal test (w ∷ rest) kept (λ u i. let (l, o) = each u i in (word_form_is_normal braid is (suc n) (image u) l o).elements) side;
     below = side.rows.shape.below;
   };

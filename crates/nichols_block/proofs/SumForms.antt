@@ -1,27 +1,30 @@
 -- A sum of rows that are forms is the form that is read from them.
-use Rattle.std.proofs.Common.{◌≡◌, ℕ, ◌+◌, ◌<◌, ◌≤◌, List, [], ◌∷◌, ◌++◌, length, take, get_or, sym, ◌∙◌, ap, ap₂, arith, inl, inr}
+use Rattle.std.proofs.lemmas.List.Elements.{All-from_recursion}
+use Rattle.std.proofs.Common.{◌≡◌, ◌≢◌, subst, ℕ, ◌+◌, ◌<◌, ◌≤◌, List, [], ◌∷◌, ◌++◌, length, take, get_or, sym, ◌∙◌, ap, ap₂, arith, inl, inr}
 use Rattle.std.specs.List.{AllByRecursion}
 use Rattle.std.proofs.lemmas.Bool.{cases_lt}
 use Rattle.std.proofs.lemmas.List.{take_more}
-use Rattle.nichols_field.specs.Field.{FieldValue, IsField, plus, times}
-use Rattle.nichols_field.proofs.FieldLaws.{plus_comm, plus_zero, times_zero, zero_is_element}
+use Rattle.nichols_field.specs.Field.{FieldValue, IsElement, IsField, plus, times}
+use Rattle.nichols_field.proofs.FieldLaws.{plus_comm, plus_zero, times_is_element, times_zero, zero_is_element}
 use Rattle.nichols_tensor.specs.Combination.{Combination, AllAmong, AllElements, linear_map, value_at}
 use Rattle.nichols_tensor.specs.InOrder.{in_order}
 use Rattle.nichols_tensor.specs.Positions.{word_at}
 use Rattle.nichols_tensor.specs.WordOrder.{IsOrdered, IsRising}
 use Rattle.nichols_tensor.proofs.InOrder.{value_at-in_order}
 use Rattle.nichols_tensor.proofs.Values.{weight, value_at-linear_map}
-use Rattle.nichols_echelon.specs.Cells.{AllBelow, Cell, IsRow, entry}
+use Rattle.nichols_echelon.specs.Cells.{AllBelow, AllNonzero, Cell, IsRow, entry, multiple_of}
 use Rattle.nichols_echelon.specs.Cells.{AllElements as AllCellsElements}
-use Rattle.nichols_echelon.specs.Combination.{AllRowsBelow, combined_entry, row_at}
+use Rattle.nichols_echelon.specs.Combination.{AllRowsBelow, AllRowsElements, AreRows, combined_entry, row_at}
+use Rattle.nichols_echelon.specs.Rows.{RowsValue}
 use Rattle.nichols_echelon.specs.Sums.{IsZero, sum_at}
 use Rattle.nichols_echelon.proofs.Combinations.{combined_entry-cons, combined_entry-nil, combined_entry-push}
-use Rattle.nichols_echelon.proofs.Entries.{cell_elsewhere, entry-cons, entry_beyond, entry_first, entry_is_element}
+use Rattle.nichols_echelon.proofs.Multiples.{multiple_elements, multiple_entry, multiple_row}
+use Rattle.nichols_echelon.proofs.Entries.{cell_elsewhere, entry-cons, entry-nil, entry_beyond, entry_first, entry_is_element}
 use Rattle.nichols_echelon.proofs.Shapes.{row_front, row_of_all}
 use Rattle.nichols_rows.specs.CombinationAt.{combination_at}
 use Rattle.nichols_value.specs.Kept.{AreCellsOf}
 use Rattle.nichols_value.proofs.FormCells.{cells_of_form, entry_at_place}
-use Rattle.nichols_block.specs.Pass.{IsRowSum}
+use Rattle.nichols_block.specs.Pass.{IsRowSum, IsSumPushed, with_row}
 
 -- ---- the loop
 
@@ -39,6 +42,42 @@ summed_more k is rows cells row i c old new less at row_is before added = record
       added place ∙ ap₂ (λ n (r : List Cell). plus k n (times k c.coefficient (entry k r place))) (before.sums place) row_is ∙ sym (combined_entry-push k is rows (take i cells) c place)
       ∙ ap (λ (xs : List Cell). combined_entry k rows xs place) (sym (take_more cells i c less ∙ ap (λ (d : Cell). take i cells ++ d ∷ []) (sym at)));
 }
+
+-- ---- sums of one row, or of none
+
+pub no_row_sum : (k : FieldValue) (rows : List (List Cell)) → IsRowSum k rows [] []
+no_row_sum k rows = record { shape = record { rising = tt; nonzero = tt }; elements = tt; entries = λ column. entry-nil k column ∙ sym (combined_entry-nil k rows column) }
+
+pub one_row_sum : (k : FieldValue) → IsField k → (rows : List (List Cell)) (c : Cell) → IsElement k c.coefficient → c.coefficient ≢ 0 → IsRow (row_at rows c.column) → AllCellsElements k (row_at rows c.column) →
+    IsRowSum k rows (c ∷ []) (multiple_of k c.coefficient (row_at rows c.column))
+one_row_sum k is rows c element nonzero row elements = record {
+  shape = multiple_row k is c.coefficient element nonzero (row_at rows c.column) elements row;
+  elements = multiple_elements k is c.coefficient (row_at rows c.column);
+  entries = λ column.
+      let v : ℕ = times k c.coefficient (entry k (row_at rows c.column) column) in
+      multiple_entry k is c.coefficient (row_at rows c.column) column
+      ∙ sym (combined_entry-cons k rows c [] column ∙ ap (plus k v) (combined_entry-nil k rows column) ∙ plus_zero k v (times_is_element k c.coefficient (entry k (row_at rows c.column) column) is));
+}
+
+pub pushed_none : (k : FieldValue) (rows : List (List Cell)) (cells : List Cell) (before after : RowsValue) → cells ≡ [] → before.begun ≡ [] → after ≡ record { rows = before.rows ++ before.begun ∷ []; begun = [] } → IsSumPushed k rows cells before after
+pushed_none k rows cells before after e begun closed = record {
+  row = [];
+  closed = closed ∙ ap (with_row before) begun;
+  sum = subst (λ (cs : List Cell). IsRowSum k rows cs []) (sym e) (no_row_sum k rows);
+}
+
+pub pushed_one : (k : FieldValue) → IsField k → (rows : List (List Cell)) (cells : List Cell) (c : Cell) (row : List Cell) (before after : RowsValue) → cells ≡ c ∷ [] → AllCellsElements k cells → AllNonzero cells → AllBelow (length rows) cells → AreRows rows → AllRowsElements k rows →
+    row ≡ row_at rows c.column → after ≡ with_row before (multiple_of k c.coefficient row) → IsSumPushed k rows cells before after
+pushed_one k is rows cells c row before after e factors nonzero places shape elements is_row closed =
+    let own : AllCellsElements k (c ∷ []) = subst (AllCellsElements k) e factors in
+    let other : AllNonzero (c ∷ []) = subst AllNonzero e nonzero in
+    let place : AllBelow (length rows) (c ∷ []) = subst (AllBelow (length rows)) e places in
+    record {
+      row = multiple_of k c.coefficient (row_at rows c.column);
+      closed = closed ∙ ap (λ (r : List Cell). with_row before (multiple_of k c.coefficient r)) is_row;
+      sum = subst (λ (cs : List Cell). IsRowSum k rows cs (multiple_of k c.coefficient (row_at rows c.column))) (sym e)
+          (one_row_sum k is rows c own.0 other.0 (All-from_recursion IsRow rows shape c.column [] place.0) (All-from_recursion (AllCellsElements k) rows elements c.column [] place.0));
+    }
 
 -- ---- its form
 

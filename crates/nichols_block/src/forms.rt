@@ -7,8 +7,8 @@ ghost use Rattle.nichols_braid.specs.Braid.{IsLetter};
 ghost use Rattle.nichols_braid.specs.Kernel.{is_killed};
 ghost use Rattle.nichols_braid.specs.Least.{is_least, normal_form};
 ghost use Rattle.nichols_braid.specs.Product.{product_before};
-ghost use Rattle.nichols_echelon.specs.Cells.{AllBelow, AllElements};
-ghost use Rattle.nichols_echelon.specs.Combination.{AllRowsBelow, AllRowsElements};
+ghost use Rattle.nichols_echelon.specs.Cells.{AllBelow, AllElements, AllNonzero};
+ghost use Rattle.nichols_echelon.specs.Combination.{AllRowsBelow, AllRowsElements, AreRows};
 ghost use Rattle.nichols_echelon.specs.Sums.{IsZero};
 ghost use Rattle.nichols_rows.specs.Places.{IsInside};
 ghost use Rattle.nichols_value.specs.Block.{block_basis, left_lower_basis, lower_basis};
@@ -51,8 +51,8 @@ struct Numbers {
     cells: Vec<Cell>,
 }
 
-/// Closes the combination of rows with these coefficients, as a row behind others. The sums are 0 before and after.
-fn push_sum(
+/// Closes the combination of rows with these coefficients, added up, as a row behind others. The sums are 0 before and after.
+fn push_many(
     field: Field,
     cells: &[Cell],
     from: &Rows,
@@ -76,6 +76,36 @@ fn push_sum(
     sums.drain_into(field, into)
 }
 
+/// The same, where a combination of one row, or of none, is a multiple of that row with no sum.
+fn push_sum(
+    field: Field,
+    cells: &[Cell],
+    from: &Rows,
+    sums: &mut Sums,
+    into: &mut Rows,
+) -> Result<(), AllocError>
+    requires factors { AllElements field cells.now }
+    requires nonzero { AllNonzero cells.now }
+    requires places { AllBelow (length from.now.rows) cells.now }
+    requires rows { AreRows from.now.rows }
+    requires elements { AllRowsElements field from.now.rows }
+    requires below { AllRowsBelow (length sums.old) from.now.rows }
+    requires zero { IsZero field sums.old }
+    requires begun { into.old.begun ≡ [] }
+    ensures zero { OnOk result (IsZero field sums.new) }
+    ensures width { OnOk result (length sums.new ≡ length sums.old) }
+    ensures pushed { OnOk result (IsSumPushed field from.now.rows cells.now into.old into.new) }
+{
+    let _modulus = field.modulus();
+    let Some((cell, rest)) = cells.split_first() else {
+        return into.close();
+    };
+    if rest.is_empty() {
+        return into.push_multiple(field, cell.coefficient, from.row(cell.column as usize));
+    }
+    push_many(field, cells, from, sums, into)
+}
+
 /// The same for the rows of a letter, behind those of a letter on the other side.
 fn push_sum_at(
     field: Field,
@@ -91,7 +121,9 @@ fn push_sum_at(
     requires behind { 1 ≤ behind }
     requires behinds { behind ≤ length into.old.items }
     requires factors { AllElements field cells.now }
+    requires nonzero { AllNonzero cells.now }
     requires places { AllBelow (length (rows_by from.now letter).rows) cells.now }
+    requires rows { AreRows (rows_by from.now letter).rows }
     requires elements { AllRowsElements field (rows_by from.now letter).rows }
     requires below { AllRowsBelow (length sums.old) (rows_by from.now letter).rows }
     requires zero { IsZero field sums.old }

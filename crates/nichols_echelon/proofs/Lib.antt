@@ -14,5 +14,6 @@ pub mod Independence
 pub mod Growing
 pub mod Sweeping
 pub mod Retracing
+pub mod Multiples
 pub mod Numbers
 pub mod Settling

@@ -1,7 +1,7 @@
 -- Rows of a sparse matrix over the field: lists of cells.
 use Rattle.std.specs.Prelude.{◌≢◌, ◌<◌, ◌==◌, ℕ, List, map, if◌then◌else◌}
 use Rattle.std.specs.List.{AllByRecursion}
-use Rattle.nichols_field.specs.Field.{FieldValue, IsElement, sum_by}
+use Rattle.nichols_field.specs.Field.{FieldValue, IsElement, sum_by, times}
 use Rattle.nichols_tensor.specs.Rising.{IsBeforeFirst, IsRisingBy}
 
 -- a cell as contracts see it: a column, and the coefficient there
@@ -15,6 +15,10 @@ cell_value c column = if c.column == column then c.coefficient else 0
 -- the entry of a row at a column: the sum of the coefficients there
 unfoldable pub entry : FieldValue → List Cell → ℕ → ℕ
 entry field cells column = sum_by field (λ c. cell_value c column) cells
+
+-- the cells with each coefficient multiplied
+abbrev pub multiple_of : FieldValue → ℕ → List Cell → List Cell
+multiple_of field by cells = map (λ c. record { column = c.column; coefficient = times field by c.coefficient }) cells
 
 -- the columns of the cells
 abbrev pub columns_of : List Cell → List ℕ

@@ -1,9 +1,12 @@
 //! Rows of cells, one behind the other in a flat list.
 
 ghost use Rattle.std.specs.Prelude.{◌≡◌, ◌<◌, ◌≤◌, ◌++◌, ◌∷◌, [], OnOk, OnErr, length, slice_index, slice_index_or};
+ghost use Rattle.nichols_field.specs.Field.{IsElement};
+ghost use Rattle.nichols_echelon.specs.Cells.{AllElements, multiple_of};
 ghost use Rattle.nichols_echelon.specs.Rows.{RowsValue, IsStepped, rows_from};
 
 use crate::rows::Cell;
+use nichols_field::Field;
 use std::alloc::{AllocError, Global};
 use std::marker::Model;
 
@@ -116,5 +119,33 @@ impl Rows {
             return Err(refused);
         }
         Ok(())
+    }
+
+    /// Closes a row of a multiple of these cells, where the open row has none yet.
+    ///
+    /// `AllocError` comes, too, where there are 2^32 cells or more. The closed rows are the same then; the open row may have cells.
+    pub fn push_multiple(
+        &mut self,
+        field: Field,
+        by: u32,
+        cells: &[Cell],
+    ) -> Result<(), AllocError>
+        requires begun { self.old.begun ≡ [] }
+        requires factor { IsElement field by }
+        requires elements { AllElements field cells.now }
+        ensures ok { OnOk result (self.new ≡ record { rows = self.old.rows ++ multiple_of field by cells.now ∷ []; begun = [] }) }
+        ensures err { OnErr result (self.new.rows ≡ self.old.rows) }
+    {
+        let _modulus = field.modulus();
+        if by == 1 {
+            return self.push_row(cells);
+        }
+        for cell in cells {
+            self.push_cell(Cell {
+                column: cell.column,
+                coefficient: field.mul(by, cell.coefficient),
+            })?;
+        }
+        self.close()
     }
 }

@@ -7,7 +7,7 @@ use Rattle.nichols_braid.specs.Kernel.{is_killed}
 use Rattle.nichols_braid.specs.Least.{normal_form}
 use Rattle.nichols_braid.specs.Product.{product_before}
 use Rattle.nichols_echelon.specs.Cells.{AllBelow, AllElements}
-use Rattle.nichols_echelon.specs.Combination.{AllRowsBelow, AllRowsElements}
+use Rattle.nichols_echelon.specs.Combination.{AllRowsBelow, AllRowsElements, AreRows}
 use Rattle.nichols_echelon.specs.Rows.{RowsValue}
 use Rattle.nichols_echelon.specs.Split.{place_at}
 use Rattle.nichols_echelon.specs.declared.rows.Place.TheVariants.{Independent}
@@ -110,6 +110,14 @@ push_sum_at-requires-clause-places c =
     let read = left_read (goal.at.push_sum_at-requires-clause-places c).After-form_without_first-cells in
     subst (λ (xs : List RowsValue). AllBelow (length (rows_by xs c.letter-a.result).rows) c.form_without_first-cells.result.now) (sym c.as_slice-else-is_some.ensures.value) read.ready.places
 
+pub push_sum_at-requires-clause-nonzero : goal.push_sum_at-requires-clause-nonzero
+push_sum_at-requires-clause-nonzero c = (left_read (goal.at.push_sum_at-requires-clause-nonzero c).After-form_without_first-cells).ready.nonzero
+
+pub push_sum_at-requires-clause-rows : goal.push_sum_at-requires-clause-rows
+push_sum_at-requires-clause-rows c =
+    let read = left_read (goal.at.push_sum_at-requires-clause-rows c).After-form_without_first-cells in
+    subst (λ (xs : List RowsValue). AreRows (rows_by xs c.letter-a.result).rows) (sym c.as_slice-else-is_some.ensures.value) read.ready.shape
+
 pub push_sum_at-requires-clause-elements : goal.push_sum_at-requires-clause-elements
 push_sum_at-requires-clause-elements c =
     let here = met_here (goal.at.push_sum_at-requires-clause-elements c).After-letter-b in
@@ -168,6 +176,14 @@ push_sum_at-requires-in_default-clause-places c =
     let here = met_here (goal.at.push_sum_at-requires-in_default-clause-places c).After-letter-b in
     let read = right_read (goal.at.push_sum_at-requires-in_default-clause-places c).After-form_without_last-cells in
     subst (λ (xs : List RowsValue). AllBelow (length (rows_by xs c.letter-b.result).rows) c.form_without_last-cells.result.now) (sym c.as_slice-in_default.ensures.value) read.ready.places
+
+pub push_sum_at-requires-in_default-clause-nonzero : goal.push_sum_at-requires-in_default-clause-nonzero
+push_sum_at-requires-in_default-clause-nonzero c = (right_read (goal.at.push_sum_at-requires-in_default-clause-nonzero c).After-form_without_last-cells).ready.nonzero
+
+pub push_sum_at-requires-in_default-clause-rows : goal.push_sum_at-requires-in_default-clause-rows
+push_sum_at-requires-in_default-clause-rows c =
+    let read = right_read (goal.at.push_sum_at-requires-in_default-clause-rows c).After-form_without_last-cells in
+    subst (λ (xs : List RowsValue). AreRows (rows_by xs c.letter-b.result).rows) (sym c.as_slice-in_default.ensures.value) read.ready.shape
 
 pub push_sum_at-requires-in_default-clause-elements : goal.push_sum_at-requires-in_default-clause-elements
 push_sum_at-requires-in_default-clause-elements c =

@@ -1,6 +1,6 @@
 use Rattle.std.proofs.Common.{◌≡◌, length, take}
 use Rattle.nichols_block.proofs.SumForms.{AreSummed}
-use Rattle.nichols_block.proofs.forms.push_sum.Given as goal
+use Rattle.nichols_block.proofs.forms.push_many.Given as goal
 
 abbrev pub invariant-loop-cell : goal.invariant-loop-cell
 invariant-loop-cell l = record {
