@@ -124,12 +124,7 @@ impl Rows {
     /// Closes a row of a multiple of these cells, where the open row has none yet.
     ///
     /// `AllocError` comes, too, where there are 2^32 cells or more. The closed rows are the same then; the open row may have cells.
-    pub fn push_multiple(
-        &mut self,
-        field: Field,
-        by: u32,
-        cells: &[Cell],
-    ) -> Result<(), AllocError>
+    pub fn push_multiple(&mut self, field: Field, by: u32, cells: &[Cell]) -> Result<(), AllocError>
         requires begun { self.old.begun ≡ [] }
         requires factor { IsElement field by }
         requires elements { AllElements field cells.now }

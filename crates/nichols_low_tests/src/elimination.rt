@@ -238,6 +238,23 @@ fn rows_one_behind_the_other(rt: HostRuntime) -> Result<(), Fail> {
     Ok(())
 }
 
+/// Multiples of 2:5, 9:3 over seven elements, by 3 and by 1, and one of no cell.
+#[test]
+fn multiples_of_rows(rt: HostRuntime) -> Result<(), Fail> {
+    let alloc = rt.alloc();
+    let field = Field::new(7).map_err(|_| "no field")?;
+    let [one, three, five] = [field.from_i64(1), field.from_i64(3), field.from_i64(5)];
+    let mut rows = Rows::new(alloc);
+    rows.push_multiple(field, three, &[cell(2, five), cell(9, three)])?;
+    rows.push_multiple(field, one, &[cell(2, five), cell(9, three)])?;
+    rows.push_multiple(field, three, &[])?;
+    assert_eq!(rt; rows.len(), 3);
+    assert!(rt; rows.row(0) == [cell(2, 1), cell(9, 2)].as_slice());
+    assert!(rt; rows.row(1) == [cell(2, 5), cell(9, 3)].as_slice());
+    assert!(rt; rows.row(2).is_empty());
+    Ok(())
+}
+
 /// Sums over seven elements: 3 (2:1, 65:2) + 6 (2:3, 70:1) + 5 at 65, where the 0 at 2 is no cell.
 #[test]
 fn sums_of_rows(rt: HostRuntime) -> Result<(), Fail> {
