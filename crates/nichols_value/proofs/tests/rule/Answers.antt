@@ -5,7 +5,6 @@ use Rattle.nichols_echelon.specs.Rows.{RowsValue}
 use Rattle.nichols_value.specs.Kept.{AreEnds, AreEndsOf, IsShaped, candidate_at}
 use Rattle.nichols_value.specs.Rule.{by_letter}
 use Rattle.nichols_value.specs.declared.ends.Ends.{Ends}
-use Rattle.nichols_value.specs.declared.key.BlockKey.{BlockKey}
 use Rattle.nichols_value.specs.declared.spot.Spot.{Spot}
 use Rattle.nichols_value.proofs.tests.rule.Goals as goal
 
