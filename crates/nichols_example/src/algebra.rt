@@ -36,7 +36,7 @@ pub fn three_transpositions(alloc: Global) -> Result<Graded, Failure>
     let field = Field::new(101).map_err(|_| Failure::Tables)?;
     let rack = table(alloc)?;
     let scalars = Scalars::Constant(Entry::Whole(-1));
-    let braid = Braid::new(alloc, field, rack.as_slice(), &scalars).map_err(|_| Failure::Tables)?;
+    let braid = Braid::new(alloc, field, rack.as_slice(), &scalars)?;
     let graded = Graded::start(alloc, braid, MOST_DEGREE, MOST_ROWS, WINDOW)?;
     Ok(graded)
 }

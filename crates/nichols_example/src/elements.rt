@@ -40,7 +40,7 @@ fn element(alloc: Global, braid: &Braid, text: &str) -> Result<Comb, Failure>
 {
     let _field = braid.field();
     let order = Order::plain(braid.letters());
-    let element = read_expression(alloc, braid, &order, text).map_err(|_| Failure::Text)?;
+    let element = read_expression(alloc, braid, &order, text)?;
     Ok(element)
 }
 

@@ -1,8 +1,12 @@
 //! Why the program stops.
 
-ghost use Rattle.std.specs.Prelude.{◌≡◌};
+ghost use Rattle.std.specs.Prelude.{◌≡◌, ◌↔◌};
+ghost use Rattle.nichols_braid.specs.declared.faults.BraidFault.TheVariants as braid_fault;
+ghost use Rattle.nichols_expression.specs.declared.faults.ExpressionFault.TheVariants as expression_fault;
 ghost use Rattle.nichols_example.specs.declared.failure.Failure.TheVariants.{Memory};
 
+use nichols_braid::BraidFault;
+use nichols_expression::ExpressionFault;
 use std::alloc::{AllocError, AllocFailed};
 
 /// Why the program stops before its last line.
@@ -31,5 +35,27 @@ impl<T: Drop> From<AllocFailed<T>> for Failure {
 
     fn from(_error: AllocFailed<T>) -> Failure {
         Failure::Memory
+    }
+}
+
+impl From<BraidFault> for Failure {
+    ghost from_gives = { λ fault failure. (failure ≡ Memory) ↔ (fault ≡ braid_fault.Memory) };
+
+    fn from(fault: BraidFault) -> Failure {
+        match fault {
+            BraidFault::Memory => Failure::Memory,
+            _ => Failure::Tables,
+        }
+    }
+}
+
+impl From<ExpressionFault> for Failure {
+    ghost from_gives = { λ fault failure. (failure ≡ Memory) ↔ (fault ≡ expression_fault.Memory) };
+
+    fn from(fault: ExpressionFault) -> Failure {
+        match fault {
+            ExpressionFault::Memory => Failure::Memory,
+            ExpressionFault::At(_, _) => Failure::Text,
+        }
     }
 }
