@@ -1,11 +1,11 @@
 -- The top table of a document, from what the reader of TOML says of its bytes.
-use Rattle.std.proofs.Common.{◌≡◌, ap, ℕ, Bool, true, false, List, Option, Some, None, Err, cond, refl, sym, ◌∙◌, String, Vec, BTreeMap, Global}
-use Rattle.std.specs.Prelude.{IfSome, option_and_then, option_map}
+use Rattle.std.proofs.Common.{◌≡◌, ap, ℕ, Bool, true, false, List, Option, Some, None, Err, cond, refl, sym, ◌∙◌}
+use Rattle.std.specs.Prelude.{IfSome, option_and_then}
 use Rattle.std.specs.Str.{IsUtf8, is_utf8}
 use Rattle.std.proofs.lemmas.Str.{IsUtf8-from_is_utf8, is_utf8-from_IsUtf8}
-use Rattle.nichols_input.specs.Document.{DocumentValue, table_in, document_of_found, document_of_table, document_with, document_in, value_in}
+use Rattle.nichols_input.specs.Document.{table_in, document_of_found, document_of_table, document_with, document_in, value_in}
 use Rattle.nichols_input.specs.Refusal.{Refusal, not_toml}
-use Rattle.toml.specs.Data.{Data, Members, get_member}
+use Rattle.toml.specs.Data.{Members, get_member}
 use Rattle.toml.specs.Parse.{parse_document}
 
 pub is_table : (bytes : List ℕ) (ms : Members) → IsUtf8 bytes → parse_document bytes ≡ Some ms → table_in bytes ≡ Some ms

@@ -1,5 +1,5 @@
 -- Worked rows: documents, what they say, and why they are refused.
-use Rattle.std.proofs.Common.{◌≡◌, ℕ, List, [], ◌∷◌, ◌++◌, Option, Some, None, Ok, Err, codes, refl}
+use Rattle.std.proofs.Common.{◌≡◌, ℕ, List, [], ◌∷◌, ◌++◌, Some, None, Ok, Err, codes, refl}
 use Rattle.std.specs.Prelude.{pos}
 use Rattle.nichols_field.specs.Field.{prime_field, quadratic_field}
 use Rattle.nichols_tensor.specs.Combination.{Combination}
