@@ -8,7 +8,7 @@ use Rattle.nichols_input.specs.Refusal.{Refusal}
 use Rattle.nichols_check.specs.Table.{Table}
 use Rattle.nichols_check.specs.TableRefusal.{TableRefusal, candidates_refusal, form_refusal, inverse_refusal, table_refusal}
 use Rattle.nichols_check.specs.Texts.{table_of}
-use Rattle.nichols_check.specs.declared.TheConstants.{TABLE_LIMIT}
+use Rattle.nichols_check.specs.declared.TheConstants.{MOST_TABLES}
 use Rattle.toml.specs.Data.{Data, Items, no_items, item, as_array}
 
 -- what is wrong with a certificate, with the degree of its table; words are in the document's letters
@@ -71,9 +71,9 @@ abbrev pub count_of : Items → ℕ
 count_of no_items = 0
 count_of (item d ds) = suc (count_of ds)
 
--- an array of at most TABLE_LIMIT items
+-- an array of at most MOST_TABLES items
 abbrev pub tables_in : Data → Option Items
-tables_in d = option_and_then (λ ds. if nat_le (count_of ds) TABLE_LIMIT then Some ds else None) (as_array d)
+tables_in d = option_and_then (λ ds. if nat_le (count_of ds) MOST_TABLES then Some ds else None) (as_array d)
 
 -- with degree 0 in front
 abbrev pub from_zero : DocumentValue → Result (List DegreeValue) CertificateRefusal → Result CertifiedValue CertificateRefusal

@@ -13,7 +13,7 @@ use std::alloc::{AllocError, AllocFailed};
 pub enum CertificateFault {
     /// The document without its tables is refused. It is never for want of memory.
     Input(InputFault),
-    /// The table hasn't the shape of one. In degree 0: there is no array of tables, or it has more than `TABLE_LIMIT`.
+    /// The table hasn't the shape of one. In degree 0: there is no array of tables, or it has more than `MOST_TABLES`.
     Shape(u32),
     /// Basis and first words of relations don't rise, or aren't together the candidates, each once.
     Candidates(u32),

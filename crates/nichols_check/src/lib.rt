@@ -9,4 +9,4 @@ pub use certified::{Certified, CertifiedDegree};
 pub use faults::CertificateFault;
 
 /// The most tables of a certificate.
-pub const TABLE_LIMIT: usize = 60;
+pub const MOST_TABLES: usize = 60;
