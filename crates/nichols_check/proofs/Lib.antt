@@ -1,0 +1,5 @@
+mod OnLiterals
+mod WorkedRows
+mod Paired
+mod RightTables
+mod Unrefused
