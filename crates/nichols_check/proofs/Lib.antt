@@ -3,3 +3,6 @@ mod WorkedRows
 mod Paired
 mod RightTables
 mod Unrefused
+mod DegreeZero
+mod CertifiedDegrees
+mod RightUnrefused
