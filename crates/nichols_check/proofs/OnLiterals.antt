@@ -6,10 +6,11 @@ use Rattle.nichols_braid.specs.Derivation.{derived_word}
 use Rattle.nichols_braid.specs.Forms.{derived_form}
 use Rattle.nichols_braid.specs.Kernel.{is_killed}
 use Rattle.nichols_braid.specs.Least.{are_congruent, is_least, basis, normal_form, candidates}
+use Rattle.nichols_expression.specs.WholeWord.{word_of}
 use Rattle.nichols_input.proofs.OnLiterals.{input_on_literals}
 use Rattle.nichols_check.specs.Table.{paired, tested}
 use Rattle.nichols_check.specs.TableRefusal.{rises, are_candidates, has_form, has_array, form_refused, inverse_refused, table_refusal}
-use Rattle.nichols_check.specs.Texts.{word_of, combination_of, table_in}
+use Rattle.nichols_check.specs.Texts.{combination_of, table_in}
 use Rattle.nichols_check.specs.Certificate.{certified_from, certified}
 
 unfoldable pub check_on_literals : ⊤

@@ -6,3 +6,6 @@ pub mod Certificate
 pub mod Answers
 -- the statements of the laws
 pub mod Laws
+-- what private functions use
+pub mod Cells
+pub mod Given

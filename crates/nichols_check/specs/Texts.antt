@@ -3,23 +3,14 @@ use Rattle.std.specs.Prelude.{ℕ, Bool, true, false, List, [], ◌∷◌, lengt
 use Rattle.nichols_tensor.specs.Combination.{Combination}
 use Rattle.nichols_tensor.specs.Relation.{PlainRelation}
 use Rattle.nichols_braid.specs.Braid.{BraidValue}
-use Rattle.nichols_braid.specs.Order.{rank_of, renamed_word}
-use Rattle.nichols_expression.specs.Reader.{Fault, Step, expression_of, is_empty, word_at}
+use Rattle.nichols_expression.specs.Reader.{Fault, expression_of}
+use Rattle.nichols_expression.specs.WholeWord.{word_of}
 use Rattle.nichols_input.specs.Document.{keys_in}
 use Rattle.nichols_input.specs.Shapes.{put_first}
 use Rattle.nichols_check.specs.Table.{Table}
 use Rattle.toml.specs.Data.{Data, Items, no_items, item, Members, get_member, as_array, as_str, as_table}
 
 -- ---- texts
-
--- what a word's reading gives, where it goes to the end of the text
-abbrev pub read_whole : Step (List ℕ) → Option (List ℕ)
-read_whole (Ok r) = if is_empty r.left then Some r.value else None
-read_whole (Err e) = None
-
--- the word, in ranks, that a text is over n letters: exactly the printed word
-unfoldable pub word_of : ℕ → List ℕ → List ℕ → Option (List ℕ)
-word_of n order text = option_map (renamed_word (rank_of order)) (read_whole (word_at n text))
 
 abbrev pub value_read : Result Combination Fault → Option Combination
 value_read (Ok f) = Some f

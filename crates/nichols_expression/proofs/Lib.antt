@@ -23,3 +23,4 @@ pub mod Entry
 pub mod Values
 mod Examples
 pub mod OnLiterals
+pub mod WholeWords

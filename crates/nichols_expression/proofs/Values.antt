@@ -44,7 +44,7 @@ letters_over n _ _ (next_letter {rest = more} {w} l p) = (of_letter n _ _ l, let
     of_letter : (n : ℕ) (text : List ℕ) (a : ℕ) → IsLetterText n text a → (1 ≤ a) × (a ≤ n)
     of_letter n _ _ (letter h) = h
 
-word_over : (n : ℕ) (text w : List ℕ) → IsWordText n text w → IsWordOver n w
+pub word_over : (n : ℕ) (text w : List ℕ) → IsWordText n text w → IsWordOver n w
 word_over n _ _ empty_word = tt
 word_over n _ _ (letters {text} {w} p fits) = letters_over n text w p
 

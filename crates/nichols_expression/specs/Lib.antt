@@ -2,6 +2,7 @@
 pub mod Bytes
 pub mod Grammar
 pub mod Reader
+pub mod WholeWord
 pub mod Printed
 pub mod Answers
 pub mod Faults

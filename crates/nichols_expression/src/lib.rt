@@ -11,10 +11,12 @@ mod ranks;
 mod scan;
 mod signs;
 mod terms;
+mod whole_word;
 mod words;
 
 pub use expression::read_expression;
 pub use faults::{Cause, ExpressionFault};
+pub use whole_word::read_whole_word;
 
 /// The most digits of a number before `*`.
 pub const NUMBER_LIMIT: usize = 9;

@@ -9,7 +9,7 @@ use nichols_words::{Term, Word};
 use std::alloc::{AllocError, Global};
 
 /// A word, with each letter's rank in its place.
-fn ranked_word(order: &Order, word: &Word) -> Word
+pub(crate) fn ranked_word(order: &Order, word: &Word) -> Word
     requires { IsWordOver (length order.now) word.now }
     ensures { result ≡ map (rank_of order.now) word.now }
 {
