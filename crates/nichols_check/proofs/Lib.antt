@@ -6,3 +6,5 @@ mod Unrefused
 mod DegreeZero
 mod CertifiedDegrees
 mod RightUnrefused
+pub mod Adding
+pub mod Taking

@@ -1,8 +1,8 @@
 //! Sums of cells, collected in one list.
 
-ghost use Rattle.std.specs.Prelude.{◌≡◌, ◌≢◌, ◌<◌, ◌↔◌, ℕ, IfOk, OnOk, IsTrue, length, replicate, slice_index, slice_set};
+ghost use Rattle.std.specs.Prelude.{◌≡◌, ◌<◌, ◌↔◌, ◌==◌, ℕ, [], IfOk, OnOk, IsTrue, length, map, replicate, slice_index, if◌then◌else◌};
 ghost use Rattle.nichols_field.specs.Field.{IsElement, plus, times};
-ghost use Rattle.nichols_check.specs.Cells.{AllBelow, AllElements, AreElements, IsZero, entry};
+ghost use Rattle.nichols_check.specs.Cells.{AllBelow, AllElements, AreElements, IsTouched, IsZero, entry};
 
 use crate::cell::Cell;
 use nichols_field::Field;
@@ -27,10 +27,81 @@ impl Model for Sums {
     ghost invariant = { λ s. IsTouched s.values.items s.touched.items };
 }
 
+/// Adds an element at a place.
+fn add_at(
+    field: Field,
+    values: &mut [u32],
+    touched: &mut Vec<usize>,
+    place: usize,
+    coefficient: u32,
+) -> Result<(), AllocError>
+    requires place { place < length values.old }
+    requires coefficient { IsElement field coefficient }
+    requires elements { AreElements field values.old }
+    requires touched { IsTouched values.old touched.old.items }
+    ensures values { OnOk result ((other : ℕ) → slice_index values.new other ≡ plus field (slice_index values.old other) (if place == other then coefficient else 0)) }
+    ensures touched { IsTouched values.new touched.new.items }
+{
+    let _modulus = field.modulus();
+    let sum = values[place];
+    if sum == 0 {
+        touched.push(place)?;
+    }
+    values[place] = field.add(sum, coefficient);
+    Ok(())
+}
+
+/// The cells of the sums at some places that aren't 0. These sums are 0 then.
+fn taken(
+    alloc: Global,
+    field: Field,
+    values: &mut [u32],
+    touched: &[usize],
+) -> Result<Vec<Cell>, AllocError>
+    requires elements { AreElements field values.old }
+    requires touched { IsTouched values.old touched.now }
+    ensures below { IfOk result (λ cells. AllBelow (length values.old) cells.items) }
+    ensures elements { IfOk result (λ cells. AllElements field cells.items) }
+    ensures entries { IfOk result (λ cells. (place : ℕ) → entry field cells.items place ≡ slice_index values.old place) }
+    ensures zero { OnOk result (IsZero values.new) }
+    ensures touched { IsTouched values.new touched.now }
+{
+    let _modulus = field.modulus();
+    let mut cells = Vec::new(alloc);
+    for place in touched {
+        let coefficient = values[*place];
+        if coefficient != 0 {
+            cells.push(Cell {
+                place: *place,
+                coefficient,
+            })?;
+            values[*place] = 0;
+        }
+    }
+    Ok(cells)
+}
+
+/// Whether the sums at some places are 0. They are so then.
+fn cleared(values: &mut [u32], touched: &[usize]) -> bool
+    requires { IsTouched values.old touched.now }
+    ensures cases { IsTrue result ↔ IsZero values.old }
+    ensures zero { IsZero values.new }
+{
+    let mut was_zero = true;
+    for place in touched {
+        if values[*place] != 0 {
+            was_zero = false;
+            values[*place] = 0;
+        }
+    }
+    was_zero
+}
+
 impl Sums {
     /// A 0 for each of so many places.
     pub(crate) fn new(alloc: Global, places: usize) -> Result<Sums, AllocError>
-        ensures { IfOk result (λ s. s ≡ replicate places 0) }
+        ensures zero { IfOk result IsZero }
+        ensures width { IfOk result (λ s. length s ≡ places) }
     {
         Ok(Sums {
             values: vec![in alloc; 0; places]?,
@@ -48,17 +119,16 @@ impl Sums {
         requires place { place < length self.old }
         requires coefficient { IsElement field coefficient }
         requires elements { AreElements field self.old }
-        ensures here { OnOk result (slice_index self.new place ≡ plus field (slice_index self.old place) coefficient) }
-        ensures elsewhere { OnOk result ((other : ℕ) → other ≢ place → slice_index self.new other ≡ slice_index self.old other) }
-        ensures elements { OnOk result (AreElements field self.new) }
+        ensures values { OnOk result ((other : ℕ) → slice_index self.new other ≡ plus field (slice_index self.old other) (if place == other then coefficient else 0)) }
         ensures width { length self.new ≡ length self.old }
     {
-        let sum = self.values[place];
-        if sum == 0 {
-            self.touched.push(place)?;
-        }
-        self.values[place] = field.add(sum, coefficient);
-        Ok(())
+        add_at(
+            field,
+            self.values.as_mut_slice(),
+            &mut self.touched,
+            place,
+            coefficient,
+        )
     }
 
     /// Adds a multiple of cells.
@@ -73,7 +143,6 @@ impl Sums {
         requires coefficients { AllElements field cells.now }
         requires elements { AreElements field self.old }
         ensures values { OnOk result ((place : ℕ) → slice_index self.new place ≡ plus field (slice_index self.old place) (times field by (entry field cells.now place))) }
-        ensures elements { OnOk result (AreElements field self.new) }
         ensures width { length self.new ≡ length self.old }
     {
         let _modulus = field.modulus();
@@ -92,15 +161,13 @@ impl Sums {
         ensures zero { OnOk result (IsZero self.new) }
         ensures width { length self.new ≡ length self.old }
     {
-        let _modulus = field.modulus();
-        let mut cells = Vec::new(alloc);
-        while let Some(place) = self.touched.pop() {
-            let coefficient = self.values[place];
-            if coefficient != 0 {
-                cells.push(Cell { place, coefficient })?;
-                self.values[place] = 0;
-            }
-        }
+        let cells = taken(
+            alloc,
+            field,
+            self.values.as_mut_slice(),
+            self.touched.as_slice(),
+        )?;
+        self.touched.clear();
         Ok(cells)
     }
 
@@ -110,13 +177,8 @@ impl Sums {
         ensures zero { IsZero self.new }
         ensures width { length self.new ≡ length self.old }
     {
-        let mut was_zero = true;
-        while let Some(place) = self.touched.pop() {
-            if self.values[place] != 0 {
-                was_zero = false;
-                self.values[place] = 0;
-            }
-        }
+        let was_zero = cleared(self.values.as_mut_slice(), self.touched.as_slice());
+        self.touched.clear();
         was_zero
     }
 }
