@@ -63,9 +63,9 @@ first_none : (o : Option Key) (q : Option (List ℕ)) → option_or (option_map 
 first_none None q none = refl
 first_none (Some key) q none = absurd cc
 
-nothing_missing : (ms : Members) → keys_refusal ms ≡ None → missing_of (at_key Modulus ms) (at_key Rack ms) (at_key Cocycle ms) ≡ None
+nothing_missing : (further : Option (List ℕ)) (ms : Members) → keys_refusal further ms ≡ None → missing_of (at_key Modulus ms) (at_key Rack ms) (at_key Cocycle ms) ≡ None
 unfolding keys_refusal missing_in
-nothing_missing ms none = first_none (missing_in ms) (unknown_in ms) none
+nothing_missing further ms none = first_none (missing_in ms) (unknown_in further ms) none
 
 -- what was read at the keys, as it is given
 abbrev pub given_of : Option ℤ → Option (Option (ℤ × ℤ)) → Option (List (List ℤ)) → Option GivenScalars → Option (Option (List ℤ)) → Option (List (List ℕ)) → Given
@@ -82,67 +82,67 @@ given_of p x rows scalars order texts = record {
 abbrev document_of_read : Option ℤ → Option (Option (ℤ × ℤ)) → Option (List (List ℤ)) → Option GivenScalars → Option (Option (List ℤ)) → Option (List (List ℕ)) → Result DocumentValue Refusal
 document_of_read p x rows scalars order texts = unless_refused (option_map wrong_kind (unread p x rows scalars order texts)) (document_of (given_of p x rows scalars order texts))
 
-by_reading : (ms : Members) → keys_refusal ms ≡ None
-    → document_of_table ms
+by_reading : (further : Option (List ℕ)) (ms : Members) → keys_refusal further ms ≡ None
+    → document_of_table further ms
     ≡ document_of_read (option_and_then as_integer (at_key Modulus ms)) (may_be as_pair (at_key Extension ms)) (option_and_then as_rows (at_key Rack ms)) (option_and_then (as_scalars (is_extended ms)) (at_key Cocycle ms))
     (may_be as_integers (at_key Order ms)) (texts_of (at_key Expressions ms))
 unfolding document_of_table wrong_kind_in
-by_reading ms none =
+by_reading further ms none =
     let document : Result DocumentValue Refusal =
     document_of
     (given_of (option_and_then as_integer (at_key Modulus ms)) (may_be as_pair (at_key Extension ms)) (option_and_then as_rows (at_key Rack ms)) (option_and_then (as_scalars (is_extended ms)) (at_key Cocycle ms))
     (may_be as_integers (at_key Order ms)) (texts_of (at_key Expressions ms))) in
     ap (λ o. unless_refused o (unless_refused (option_map wrong_kind (wrong_kind_in ms)) document)) none
     ∙ ap (λ o. unless_refused (option_map wrong_kind o) document)
-    (kinds_read (at_key Modulus ms) (at_key Extension ms) (at_key Rack ms) (at_key Cocycle ms) (at_key Order ms) (at_key Expressions ms) (nothing_missing ms none))
+    (kinds_read (at_key Modulus ms) (at_key Extension ms) (at_key Rack ms) (at_key Cocycle ms) (at_key Order ms) (at_key Expressions ms) (nothing_missing further ms none))
 
-read : (ms : Members) (p : Option ℤ) (x : Option (Option (ℤ × ℤ))) (rows : Option (List (List ℤ))) (scalars : Option GivenScalars) (order : Option (Option (List ℤ))) (texts : Option (List (List ℕ)))
-    → keys_refusal ms ≡ None
+read : (further : Option (List ℕ)) (ms : Members) (p : Option ℤ) (x : Option (Option (ℤ × ℤ))) (rows : Option (List (List ℤ))) (scalars : Option GivenScalars) (order : Option (Option (List ℤ))) (texts : Option (List (List ℕ)))
+    → keys_refusal further ms ≡ None
     → p ≡ option_and_then as_integer (at_key Modulus ms)
     → x ≡ may_be as_pair (at_key Extension ms)
     → rows ≡ option_and_then as_rows (at_key Rack ms)
     → scalars ≡ option_and_then (as_scalars (is_extended ms)) (at_key Cocycle ms)
     → order ≡ may_be as_integers (at_key Order ms)
     → texts ≡ texts_of (at_key Expressions ms)
-    → document_of_table ms ≡ document_of_read p x rows scalars order texts
-read ms p x rows scalars order texts none is_p is_x is_rows is_scalars is_order is_texts = rw (is_p, is_x, is_rows, is_scalars, is_order, is_texts) (by_reading ms none)
+    → document_of_table further ms ≡ document_of_read p x rows scalars order texts
+read further ms p x rows scalars order texts none is_p is_x is_rows is_scalars is_order is_texts = rw (is_p, is_x, is_rows, is_scalars, is_order, is_texts) (by_reading further ms none)
 
-pub wrong_keys : (ms : Members) (o : Option Refusal) → IfSome o (λ refusal. keys_refusal ms ≡ Some refusal) → IfSome o (λ refusal. document_of_table ms ≡ Err refusal)
+pub wrong_keys : (further : Option (List ℕ)) (ms : Members) (o : Option Refusal) → IfSome o (λ refusal. keys_refusal further ms ≡ Some refusal) → IfSome o (λ refusal. document_of_table further ms ≡ Err refusal)
 unfolding document_of_table
-wrong_keys ms None is = tt
-wrong_keys ms (Some refusal) is = rw is refl
+wrong_keys further ms None is = tt
+wrong_keys further ms (Some refusal) is = rw is refl
 
-pub wrong_modulus : (ms : Members) → keys_refusal ms ≡ None → None ≡ option_and_then as_integer (at_key Modulus ms) → document_of_table ms ≡ Err (wrong_kind Modulus)
-wrong_modulus ms none is_p = read ms None _ _ _ _ _ none is_p refl refl refl refl refl
+pub wrong_modulus : (further : Option (List ℕ)) (ms : Members) → keys_refusal further ms ≡ None → None ≡ option_and_then as_integer (at_key Modulus ms) → document_of_table further ms ≡ Err (wrong_kind Modulus)
+wrong_modulus further ms none is_p = read further ms None _ _ _ _ _ none is_p refl refl refl refl refl
 
-pub wrong_extension : (ms : Members) (p : ℤ) → keys_refusal ms ≡ None → Some p ≡ option_and_then as_integer (at_key Modulus ms) → None ≡ may_be as_pair (at_key Extension ms)
-    → document_of_table ms ≡ Err (wrong_kind Extension)
-wrong_extension ms p none is_p is_x = read ms (Some p) None _ _ _ _ none is_p is_x refl refl refl refl
+pub wrong_extension : (further : Option (List ℕ)) (ms : Members) (p : ℤ) → keys_refusal further ms ≡ None → Some p ≡ option_and_then as_integer (at_key Modulus ms) → None ≡ may_be as_pair (at_key Extension ms)
+    → document_of_table further ms ≡ Err (wrong_kind Extension)
+wrong_extension further ms p none is_p is_x = read further ms (Some p) None _ _ _ _ none is_p is_x refl refl refl refl
 
-pub wrong_rack : (ms : Members) (p : ℤ) (x : Option (ℤ × ℤ)) → keys_refusal ms ≡ None → Some p ≡ option_and_then as_integer (at_key Modulus ms) → Some x ≡ may_be as_pair (at_key Extension ms)
-    → None ≡ option_and_then as_rows (at_key Rack ms) → document_of_table ms ≡ Err (wrong_kind Rack)
-wrong_rack ms p x none is_p is_x is_rows = read ms (Some p) (Some x) None _ _ _ none is_p is_x is_rows refl refl refl
+pub wrong_rack : (further : Option (List ℕ)) (ms : Members) (p : ℤ) (x : Option (ℤ × ℤ)) → keys_refusal further ms ≡ None → Some p ≡ option_and_then as_integer (at_key Modulus ms) → Some x ≡ may_be as_pair (at_key Extension ms)
+    → None ≡ option_and_then as_rows (at_key Rack ms) → document_of_table further ms ≡ Err (wrong_kind Rack)
+wrong_rack further ms p x none is_p is_x is_rows = read further ms (Some p) (Some x) None _ _ _ none is_p is_x is_rows refl refl refl
 
-pub wrong_cocycle : (ms : Members) (p : ℤ) (x : Option (ℤ × ℤ)) (rows : List (List ℤ)) → keys_refusal ms ≡ None → Some p ≡ option_and_then as_integer (at_key Modulus ms)
+pub wrong_cocycle : (further : Option (List ℕ)) (ms : Members) (p : ℤ) (x : Option (ℤ × ℤ)) (rows : List (List ℤ)) → keys_refusal further ms ≡ None → Some p ≡ option_and_then as_integer (at_key Modulus ms)
     → Some x ≡ may_be as_pair (at_key Extension ms) → Some rows ≡ option_and_then as_rows (at_key Rack ms) → None ≡ option_and_then (as_scalars (is_extended ms)) (at_key Cocycle ms)
-    → document_of_table ms ≡ Err (wrong_kind Cocycle)
-wrong_cocycle ms p x rows none is_p is_x is_rows is_scalars = read ms (Some p) (Some x) (Some rows) None _ _ none is_p is_x is_rows is_scalars refl refl
+    → document_of_table further ms ≡ Err (wrong_kind Cocycle)
+wrong_cocycle further ms p x rows none is_p is_x is_rows is_scalars = read further ms (Some p) (Some x) (Some rows) None _ _ none is_p is_x is_rows is_scalars refl refl
 
-pub wrong_order : (ms : Members) (p : ℤ) (x : Option (ℤ × ℤ)) (rows : List (List ℤ)) (scalars : GivenScalars) → keys_refusal ms ≡ None → Some p ≡ option_and_then as_integer (at_key Modulus ms)
+pub wrong_order : (further : Option (List ℕ)) (ms : Members) (p : ℤ) (x : Option (ℤ × ℤ)) (rows : List (List ℤ)) (scalars : GivenScalars) → keys_refusal further ms ≡ None → Some p ≡ option_and_then as_integer (at_key Modulus ms)
     → Some x ≡ may_be as_pair (at_key Extension ms) → Some rows ≡ option_and_then as_rows (at_key Rack ms) → Some scalars ≡ option_and_then (as_scalars (is_extended ms)) (at_key Cocycle ms)
-    → None ≡ may_be as_integers (at_key Order ms) → document_of_table ms ≡ Err (wrong_kind Order)
-wrong_order ms p x rows scalars none is_p is_x is_rows is_scalars is_order = read ms (Some p) (Some x) (Some rows) (Some scalars) None _ none is_p is_x is_rows is_scalars is_order refl
+    → None ≡ may_be as_integers (at_key Order ms) → document_of_table further ms ≡ Err (wrong_kind Order)
+wrong_order further ms p x rows scalars none is_p is_x is_rows is_scalars is_order = read further ms (Some p) (Some x) (Some rows) (Some scalars) None _ none is_p is_x is_rows is_scalars is_order refl
 
-pub wrong_expressions : (ms : Members) (p : ℤ) (x : Option (ℤ × ℤ)) (rows : List (List ℤ)) (scalars : GivenScalars) (order : Option (List ℤ)) → keys_refusal ms ≡ None
+pub wrong_expressions : (further : Option (List ℕ)) (ms : Members) (p : ℤ) (x : Option (ℤ × ℤ)) (rows : List (List ℤ)) (scalars : GivenScalars) (order : Option (List ℤ)) → keys_refusal further ms ≡ None
     → Some p ≡ option_and_then as_integer (at_key Modulus ms) → Some x ≡ may_be as_pair (at_key Extension ms) → Some rows ≡ option_and_then as_rows (at_key Rack ms)
     → Some scalars ≡ option_and_then (as_scalars (is_extended ms)) (at_key Cocycle ms) → Some order ≡ may_be as_integers (at_key Order ms) → None ≡ texts_of (at_key Expressions ms)
-    → document_of_table ms ≡ Err (wrong_kind Expressions)
-wrong_expressions ms p x rows scalars order none is_p is_x is_rows is_scalars is_order is_texts =
-    read ms (Some p) (Some x) (Some rows) (Some scalars) (Some order) None none is_p is_x is_rows is_scalars is_order is_texts
+    → document_of_table further ms ≡ Err (wrong_kind Expressions)
+wrong_expressions further ms p x rows scalars order none is_p is_x is_rows is_scalars is_order is_texts =
+    read further ms (Some p) (Some x) (Some rows) (Some scalars) (Some order) None none is_p is_x is_rows is_scalars is_order is_texts
 
-pub right_kinds : (ms : Members) (given : Given) → keys_refusal ms ≡ None → Some given.modulus ≡ option_and_then as_integer (at_key Modulus ms) → Some given.extension ≡ may_be as_pair (at_key Extension ms)
+pub right_kinds : (further : Option (List ℕ)) (ms : Members) (given : Given) → keys_refusal further ms ≡ None → Some given.modulus ≡ option_and_then as_integer (at_key Modulus ms) → Some given.extension ≡ may_be as_pair (at_key Extension ms)
     → Some given.rows ≡ option_and_then as_rows (at_key Rack ms) → Some given.scalars ≡ option_and_then (as_scalars (is_extended ms)) (at_key Cocycle ms)
     → Some given.order ≡ may_be as_integers (at_key Order ms) → Some given.texts ≡ texts_of (at_key Expressions ms)
-    → document_of_table ms ≡ document_of given
-right_kinds ms given none is_p is_x is_rows is_scalars is_order is_texts =
-    read ms (Some given.modulus) (Some given.extension) (Some given.rows) (Some given.scalars) (Some given.order) (Some given.texts) none is_p is_x is_rows is_scalars is_order is_texts
+    → document_of_table further ms ≡ document_of given
+right_kinds further ms given none is_p is_x is_rows is_scalars is_order is_texts =
+    read further ms (Some given.modulus) (Some given.extension) (Some given.rows) (Some given.scalars) (Some given.order) (Some given.texts) none is_p is_x is_rows is_scalars is_order is_texts

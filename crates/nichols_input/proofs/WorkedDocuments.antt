@@ -1,15 +1,16 @@
 -- Worked rows: documents, what they say, and why they are refused.
-use Rattle.std.proofs.Common.{◌≡◌, ℕ, List, [], ◌∷◌, ◌++◌, Ok, Err, codes, refl}
+use Rattle.std.proofs.Common.{◌≡◌, ℕ, List, [], ◌∷◌, ◌++◌, Option, Some, None, Ok, Err, codes, refl}
 use Rattle.std.specs.Prelude.{pos}
 use Rattle.nichols_field.specs.Field.{prime_field, quadratic_field}
 use Rattle.nichols_tensor.specs.Combination.{Combination}
 use Rattle.nichols_braid.specs.Faults.{letters, not_bijective, not_distributive, cocycle_shape}
 use Rattle.nichols_expression.specs.declared.faults.Cause.TheVariants.{Byte, Letter}
 use Rattle.nichols_tensor.proofs.Terms.{term}
-use Rattle.nichols_input.specs.Document.{DocumentValue, document_in}
+use Rattle.nichols_input.specs.Document.{DocumentValue, document_in, document_with, value_in}
 use Rattle.nichols_input.specs.Refusal.{not_toml, missing_key, unknown_key, wrong_kind, modulus, root, tables, order, expression}
 use Rattle.nichols_input.specs.declared.key.Key.TheVariants.{Modulus, Extension, Rack, Cocycle, Order, Expressions}
 use Rattle.nichols_input.proofs.OnLiterals.{input_on_literals}
+use Rattle.toml.specs.Data.{array, integer, item, no_items}
 
 -- ---- the three transpositions
 
@@ -137,6 +138,32 @@ pair_without_extension = refl
 table_of_one_letter : document_in (codes "modulus = 2\nextension = [1, 1]\nrack = [[1]]\ncocycle = [[0, 1]]\n") ≡ Err (tables (cocycle_shape 1))
 unfolding input_on_literals
 table_of_one_letter = refl
+
+-- ---- a further key
+
+abbrev with_degree : List ℕ
+with_degree = modulus_line ++ codes "degree = [3]\n" ++ rack_line ++ cocycle_line
+
+further_key : document_with (Some (codes "degree")) with_degree ≡ Ok (three_with [])
+unfolding input_on_literals
+further_key = refl
+
+further_value : value_in (codes "degree") with_degree ≡ Some (array (item (integer (pos 3)) no_items))
+unfolding input_on_literals
+further_value = refl
+
+no_further_value : value_in (codes "colour") with_degree ≡ None
+unfolding input_on_literals
+no_further_value = refl
+
+other_further_key : document_with (Some (codes "degrees")) with_degree ≡ Err (unknown_key (codes "degree"))
+unfolding input_on_literals
+other_further_key = refl
+
+-- a known key is judged as it always is
+known_further_key : document_with (Some (codes "rack")) (modulus_line ++ codes "rack = 1\n" ++ cocycle_line) ≡ Err (wrong_kind Rack)
+unfolding input_on_literals
+known_further_key = refl
 
 -- ---- what the library reads beyond TOML 1.0
 

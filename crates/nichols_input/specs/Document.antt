@@ -20,7 +20,7 @@ use Rattle.nichols_expression.specs.declared.faults.Cause.TheVariants.{Surplus}
 use Rattle.nichols_expression.specs.declared.TheConstants.{EXPRESSION_LIMIT}
 use Rattle.nichols_input.specs.declared.key.Key.{Key}
 use Rattle.nichols_input.specs.declared.key.Key.TheVariants.{Modulus, Extension, Rack, Cocycle, Order, Expressions}
-use Rattle.nichols_input.specs.Keys.{key_name, needed_keys, known_keys, is_known}
+use Rattle.nichols_input.specs.Keys.{key_name, needed_keys, known_keys, is_allowed}
 use Rattle.nichols_input.specs.Shapes.{as_integers, as_rows, as_pair, as_scalars, as_texts, has_kind}
 use Rattle.nichols_input.specs.Refusal.{Refusal, not_toml, missing_key, unknown_key, wrong_kind, field_refusal, tables, order, expression}
 use Rattle.toml.specs.Data.{Data, Members, no_members, member, get_member, as_integer}
@@ -45,9 +45,9 @@ abbrev pub keys_in : Members → List (List ℕ)
 keys_in no_members = []
 keys_in (member text d ms) = text ∷ keys_in ms
 
--- the first key that no document has
-unfoldable pub unknown_in : Members → Option (List ℕ)
-unknown_in ms = find (λ text. not (is_known text)) (keys_in ms)
+-- the first key that isn't allowed
+unfoldable pub unknown_in : Option (List ℕ) → Members → Option (List ℕ)
+unknown_in further ms = find (λ text. not (is_allowed further text)) (keys_in ms)
 
 -- whether a document has an extension
 abbrev pub is_extended : Members → Bool
@@ -63,8 +63,8 @@ unfoldable pub wrong_kind_in : Members → Option Key
 wrong_kind_in ms = find (λ key. has_wrong_kind (is_extended ms) key (at_key key ms)) known_keys
 
 -- what is wrong with the keys: first a missing one
-unfoldable pub keys_refusal : Members → Option Refusal
-keys_refusal ms = option_or (option_map missing_key (missing_in ms)) (option_map unknown_key (unknown_in ms))
+unfoldable pub keys_refusal : Option (List ℕ) → Members → Option Refusal
+keys_refusal further ms = option_or (option_map missing_key (missing_in ms)) (option_map unknown_key (unknown_in further ms))
 
 -- what is wrong with the kinds
 abbrev pub kinds_refusal : Members → Option Refusal
@@ -174,18 +174,26 @@ unless_refused None document = document
 unless_refused (Some refusal) document = Err refusal
 
 -- the document of a top table: first its keys, then their kinds
-unfoldable pub document_of_table : Members → Result DocumentValue Refusal
-document_of_table ms = unless_refused (keys_refusal ms) (unless_refused (kinds_refusal ms) (document_of (given_at ms)))
+unfoldable pub document_of_table : Option (List ℕ) → Members → Result DocumentValue Refusal
+document_of_table further ms = unless_refused (keys_refusal further ms) (unless_refused (kinds_refusal ms) (document_of (given_at ms)))
 
 -- the top table of a document, where its bytes are UTF-8 and TOML
 unfoldable pub table_in : List ℕ → Option Members
 table_in bytes = if is_utf8 bytes then parse_document bytes else None
 
 -- the document of a top table, where there is one
-abbrev pub document_of_found : Option Members → Result DocumentValue Refusal
-document_of_found None = Err not_toml
-document_of_found (Some ms) = document_of_table ms
+abbrev pub document_of_found : Option (List ℕ) → Option Members → Result DocumentValue Refusal
+document_of_found further None = Err not_toml
+document_of_found further (Some ms) = document_of_table further ms
+
+-- what bytes say where a further key is allowed, if one is, or why they are refused
+unfoldable pub document_with : Option (List ℕ) → List ℕ → Result DocumentValue Refusal
+document_with further bytes = document_of_found further (table_in bytes)
 
 -- what bytes say, or why they are refused
 unfoldable pub document_in : List ℕ → Result DocumentValue Refusal
-document_in bytes = document_of_found (table_in bytes)
+document_in bytes = document_with None bytes
+
+-- the value at a key of the top table of bytes, where it is there
+unfoldable pub value_in : List ℕ → List ℕ → Option Data
+value_in key bytes = option_and_then (get_member key) (table_in bytes)

@@ -1,5 +1,5 @@
 -- The keys of a document.
-use Rattle.std.specs.Prelude.{ℕ, Bool, List, [], ◌∷◌, codes, map}
+use Rattle.std.specs.Prelude.{ℕ, Bool, ◌||◌, List, [], ◌∷◌, Option, None, Some, codes, map}
 use Rattle.std.specs.List.{list_any}
 use Rattle.std.specs.Str.{bytes_eq}
 use Rattle.nichols_input.specs.declared.key.Key.{Key}
@@ -25,3 +25,8 @@ known_keys = Modulus ∷ Extension ∷ Rack ∷ Cocycle ∷ Order ∷ Expression
 -- whether a text is one of them
 abbrev pub is_known : List ℕ → Bool
 is_known text = list_any (bytes_eq text) (map key_name known_keys)
+
+-- whether a text may be a key of a document where a further key is allowed, if one is
+abbrev pub is_allowed : Option (List ℕ) → List ℕ → Bool
+is_allowed None text = is_known text
+is_allowed (Some further) text = is_known text || bytes_eq text further

@@ -16,7 +16,7 @@ pub data Refusal : Type 0 where
   not_toml : Refusal
   -- a key isn't there
   missing_key : Key → Refusal
-  -- a key is there that no document has
+  -- a key is there that isn't allowed
   unknown_key : List ℕ → Refusal
   -- a value is of a wrong kind
   wrong_kind : Key → Refusal

@@ -1,18 +1,19 @@
 //! Documents.
 
-ghost use Rattle.std.specs.Prelude.{◌≡◌, ◌≤◌, None, Ok, Err, IsTrue, MatchResult, IfOk, IfErr, IfSome, is_some, length, map, option_map};
+ghost use Rattle.std.specs.Prelude.{◌≡◌, ◌≤◌, None, Some, Ok, Err, IsTrue, MatchResult, IfOk, IfErr, IfSome, is_some, length, map, option_copied, option_map};
 ghost use Rattle.std.specs.List.{AllByRecursion};
 ghost use Rattle.nichols_braid.specs.GivenScalars.{given_scalars};
 ghost use Rattle.nichols_field.specs.Field.{is_extended};
-ghost use Rattle.nichols_input.specs.Document.{document_in, document_of, document_of_table, field_of, order_of};
+ghost use Rattle.nichols_input.specs.Document.{document_in, document_of, document_of_table, document_with, field_of, order_of, table_in, value_in};
 ghost use Rattle.nichols_input.specs.Tables.{AreEntriesIf, given_in};
-ghost use Rattle.nichols_input.specs.Refusal.{refusal_of};
+ghost use Rattle.nichols_input.specs.Refusal.{not_toml, refusal_of};
 ghost use Rattle.nichols_expression.specs.declared.TheConstants.{EXPRESSION_LIMIT};
 ghost use Rattle.nichols_input.specs.declared.faults.InputFault.TheVariants.{Memory};
 ghost use Rattle.nichols_tensor.specs.Combination.{AllElements};
 ghost use Rattle.nichols_tensor.specs.Words.{IsOver};
 ghost use Rattle.nichols_tensor.specs.declared.TheConstants.{LETTER_LIMIT};
-ghost use Rattle.toml.specs.View.{table_view};
+ghost use Rattle.toml.specs.Data.{get_member};
+ghost use Rattle.toml.specs.View.{table_view, view};
 
 use crate::expressions::read_expressions;
 use crate::faults::InputFault;
@@ -25,7 +26,7 @@ use nichols_field::{Field, FieldFault};
 use nichols_words::Comb;
 use std::alloc::Global;
 use std::marker::Model;
-use toml::Table;
+use toml::{Table, Value};
 
 /// An order of the letters, and in ranks a braid and combinations of words of its letters with elements of its field as coefficients.
 #[derive(Drop)]
@@ -55,7 +56,7 @@ impl Model for Document {
 /// at every place. `extension = [a, b]` adds an element t with t² = a t + b to the field, and the entry `[u, v]` is u + v t.
 /// `order` lists the letters from the least to the greatest, and is 1 to n where it is left out. Each string is an expression
 /// over the letters. The faults are told in the order of `InputFault`.
-#[tactic(auto, using(crate::proofs::Found::read_table, crate::proofs::Found::refused_table))]
+#[tactic(auto, using(crate::proofs::Found::read_plain, crate::proofs::Found::refused_plain))]
 pub fn read_document(alloc: Global, bytes: &[u8]) -> Result<Document, InputFault>
     ensures document { MatchResult result
         (λ d. document_in bytes.now ≡ Ok d)
@@ -66,8 +67,52 @@ pub fn read_document(alloc: Global, bytes: &[u8]) -> Result<Document, InputFault
     ensures elements { IfOk result (λ d. AllByRecursion (AllElements d.braid.field) d.expressions) }
     ensures number { IfOk result (λ d. length d.expressions ≤ EXPRESSION_LIMIT) }
 {
+    let table = top_table(alloc, bytes)?;
+    document_of_table(alloc, &table, None)
+}
+
+/// The document that bytes are where one further key is allowed, and the value at that key: `None` exactly where it isn't
+/// there. All else is as `read_document` has it, and a fault comes exactly where it refuses the bytes for anything
+/// but that key. A key that documents have anyway is read as it always is, and its value is handed out, too.
+#[tactic(auto, using(crate::proofs::Found::read_with, crate::proofs::Found::refused_with, crate::proofs::Found::read_value))]
+pub fn read_certified(
+    alloc: Global,
+    bytes: &[u8],
+    extra: &str,
+) -> Result<(Document, Option<Value>), InputFault>
+    ensures document { MatchResult result
+        (λ r. document_with (Some extra.now) bytes.now ≡ Ok r.0)
+        (λ fault. IfSome (refusal_of fault) (λ refusal. document_with (Some extra.now) bytes.now ≡ Err refusal)) }
+    ensures value { IfOk result (λ r. option_map view r.1 ≡ value_in extra.now bytes.now) }
+    ensures memory { IfErr result (λ fault. refusal_of fault ≡ None → fault ≡ Memory) }
+    ensures order { IfOk result (λ r. length r.0.order ≡ r.0.braid.letters) }
+    ensures letters { IfOk result (λ r. AllByRecursion (IsOver r.0.braid.letters) r.0.expressions) }
+    ensures elements { IfOk result (λ r. AllByRecursion (AllElements r.0.braid.field) r.0.expressions) }
+    ensures number { IfOk result (λ r. length r.0.expressions ≤ EXPRESSION_LIMIT) }
+{
+    let table = top_table(alloc, bytes)?;
+    let document = document_of_table(alloc, &table, Some(extra))?;
+    Ok((document, taken(table, extra)))
+}
+
+/// The value at a key of a table that is given up.
+fn taken(table: Table, key: &str) -> Option<Value>
+    ensures { option_map view result ≡ get_member key.now (table_view table) }
+{
+    let mut rest = table;
+    rest.remove(key)
+}
+
+/// The top table of bytes that are TOML.
+#[tactic(auto, using(crate::proofs::Found::is_table, crate::proofs::Found::no_table))]
+fn top_table(alloc: Global, bytes: &[u8]) -> Result<Table, InputFault>
+    ensures table { MatchResult result
+        (λ table. table_in bytes.now ≡ Some (table_view table))
+        (λ fault. IfSome (refusal_of fault) (λ refusal. (refusal ≡ not_toml) × (table_in bytes.now ≡ None))) }
+    ensures memory { IfErr result (λ fault. refusal_of fault ≡ None → fault ≡ Memory) }
+{
     match toml::table_from_slice(alloc, bytes) {
-        Ok(table) => document_of_table(alloc, &table),
+        Ok(table) => Ok(table),
         Err(error) => {
             if error.is_memory() {
                 return Err(InputFault::Memory);
@@ -77,19 +122,23 @@ pub fn read_document(alloc: Global, bytes: &[u8]) -> Result<Document, InputFault
     }
 }
 
-/// The document of a top table.
+/// The document of a top table, where a further key is allowed, if one is.
 #[tactic(auto, using(crate::proofs::ReadKinds::wrong_modulus, crate::proofs::ReadKinds::wrong_extension, crate::proofs::ReadKinds::wrong_rack))]
-fn document_of_table(alloc: Global, table: &Table) -> Result<Document, InputFault>
+fn document_of_table(
+    alloc: Global,
+    table: &Table,
+    further: Option<&str>,
+) -> Result<Document, InputFault>
     ensures document { MatchResult result
-        (λ d. document_of_table (table_view table.now) ≡ Ok d)
-        (λ fault. IfSome (refusal_of fault) (λ refusal. document_of_table (table_view table.now) ≡ Err refusal)) }
+        (λ d. document_of_table (option_copied further.entry) (table_view table.now) ≡ Ok d)
+        (λ fault. IfSome (refusal_of fault) (λ refusal. document_of_table (option_copied further.entry) (table_view table.now) ≡ Err refusal)) }
     ensures memory { IfErr result (λ fault. refusal_of fault ≡ None → fault ≡ Memory) }
     ensures order { IfOk result (λ d. length d.order ≡ d.braid.letters) }
     ensures letters { IfOk result (λ d. AllByRecursion (IsOver d.braid.letters) d.expressions) }
     ensures elements { IfOk result (λ d. AllByRecursion (AllElements d.braid.field) d.expressions) }
     ensures number { IfOk result (λ d. length d.expressions ≤ EXPRESSION_LIMIT) }
 {
-    check_keys(alloc, table)?;
+    check_keys(alloc, table, further)?;
     let extended = is_extended(table);
     let Some(modulus) = integer_at(table, Key::Modulus) else {
         return Err(InputFault::WrongKind(Key::Modulus));

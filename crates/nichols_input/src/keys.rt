@@ -3,7 +3,7 @@
 ghost use Rattle.std.specs.Prelude.{◌≡◌, None, Some, IfOk, IfErr, IfSome, MatchResult, map, option_and_then, option_copied, option_map};
 ghost use Rattle.nichols_braid.specs.GivenScalars.{given_scalars};
 ghost use Rattle.nichols_input.specs.Document.{at_key, is_extended, keys_refusal, may_be, missing_in, texts_of, unknown_in};
-ghost use Rattle.nichols_input.specs.Keys.{is_known};
+ghost use Rattle.nichols_input.specs.Keys.{is_allowed, is_known};
 ghost use Rattle.nichols_input.specs.Refusal.{refusal_of};
 ghost use Rattle.nichols_input.specs.Shapes.{as_integers, as_pair, as_rows, as_scalars};
 ghost use Rattle.nichols_input.specs.declared.faults.InputFault.TheVariants.{Memory};
@@ -18,18 +18,22 @@ use nichols_braid::Scalars;
 use std::alloc::{AllocError, Global};
 use toml::{Table, Value};
 
-/// Whether each key that a document has is there, and no other.
+/// Whether each key that a document has is there, and no other but the further one.
 #[tactic(auto, unfolding(crate::specs::Document::keys_refusal))]
-pub(crate) fn check_keys(alloc: Global, table: &Table) -> Result<(), InputFault>
+pub(crate) fn check_keys(
+    alloc: Global,
+    table: &Table,
+    further: Option<&str>,
+) -> Result<(), InputFault>
     ensures keys { MatchResult result
-        (λ _. keys_refusal (table_view table.now) ≡ None)
-        (λ fault. IfSome (refusal_of fault) (λ refusal. keys_refusal (table_view table.now) ≡ Some refusal)) }
+        (λ _. keys_refusal (option_copied further.entry) (table_view table.now) ≡ None)
+        (λ fault. IfSome (refusal_of fault) (λ refusal. keys_refusal (option_copied further.entry) (table_view table.now) ≡ Some refusal)) }
     ensures memory { IfErr result (λ fault. refusal_of fault ≡ None → fault ≡ Memory) }
 {
     if let Some(key) = missing_key(table) {
         return Err(InputFault::MissingKey(key));
     }
-    if let Some(key) = unknown_key(table) {
+    if let Some(key) = unknown_key(table, further) {
         return Err(InputFault::UnknownKey(KeyText::new(alloc, key)?));
     }
     Ok(())
@@ -64,13 +68,23 @@ fn is_known(key: &str) -> bool
         || key == "expressions"
 }
 
-/// The least key that isn't one of a document's.
+/// Whether a key is one of a document's, or the further one.
+fn is_allowed(further: Option<&str>, key: &str) -> bool
+    ensures { result ≡ is_allowed (option_copied further.entry) key.now }
+{
+    match further {
+        Some(name) => is_known(key) || key == name,
+        None => is_known(key),
+    }
+}
+
+/// The least key that is neither one of a document's nor the further one.
 #[tactic(auto, unfolding(crate::specs::Document::unknown_in))]
-fn unknown_key(table: &Table) -> Option<&str>
-    ensures { option_copied result ≡ unknown_in (table_view table.now) }
+fn unknown_key<'a>(table: &'a Table, further: Option<&str>) -> Option<&'a str>
+    ensures { option_copied result ≡ unknown_in (option_copied further.entry) (table_view table.now) }
 {
     for (key, _value) in table.iter() {
-        if !is_known(key.as_str()) {
+        if !is_allowed(further, key.as_str()) {
             return Some(key.as_str());
         }
     }

@@ -10,7 +10,7 @@ mod keys;
 pub mod laws;
 mod shapes;
 
-pub use document::{Document, read_document};
+pub use document::{Document, read_certified, read_document};
 pub use faults::InputFault;
 pub use key::Key;
 pub use key_text::KeyText;

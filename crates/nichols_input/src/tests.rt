@@ -93,3 +93,33 @@ fn keys(rt: HostRuntime) -> Result<(), Fail> {
     assert_eq!(rt; text.as_str(), "colour");
     Ok(())
 }
+
+/// A document with a key that no document has.
+const WITH_DEGREE: &[u8] = b"modulus = 7\nrack = [[1]]\ndegree = [3]\ncocycle = 2\n";
+
+#[test]
+fn a_further_key(rt: HostRuntime) -> Result<(), Fail> {
+    let alloc = rt.alloc();
+    let (document, value) = read_certified(alloc, WITH_DEGREE, "degree").map_err(|_| "refused")?;
+    assert_eq!(rt; document.braid.letters(), 1);
+    let Some(value) = value else {
+        return Err("no value".into());
+    };
+    let items = value.as_array().map_or(0, |items| items.len());
+    assert_eq!(rt; items, 1);
+    assert!(rt; read_document(alloc, WITH_DEGREE).is_err());
+    assert!(rt; read_certified(alloc, WITH_DEGREE, "order").is_err());
+    Ok(())
+}
+
+#[test]
+fn a_further_key_may_be_missing_or_known(rt: HostRuntime) -> Result<(), Fail> {
+    let alloc = rt.alloc();
+    let [plain, ..] = READ;
+    let (_, missing) = read_certified(alloc, plain, "degree").map_err(|_| "refused")?;
+    assert!(rt; missing.is_none());
+    let (document, known) = read_certified(alloc, plain, "modulus").map_err(|_| "refused")?;
+    assert_eq!(rt; document.braid.field().modulus(), 7);
+    assert!(rt; known.and_then(|value| value.as_integer()) == Some(7));
+    Ok(())
+}
