@@ -1,7 +1,7 @@
 mod OnLiterals
 mod WorkedRows
 mod Paired
-mod RightTables
+pub mod RightTables
 mod Unrefused
 mod DegreeZero
 mod CertifiedDegrees

@@ -1,0 +1,2 @@
+-- the statements of the laws
+pub mod Laws
