@@ -14,7 +14,8 @@ use Rattle.nichols_tensor.proofs.Ordered.{is_in_or_not, zero_at_others}
 use Rattle.nichols_tensor.proofs.Over.{all_at, all_of_words}
 use Rattle.nichols_tensor.proofs.Rising.{stands_after}
 use Rattle.nichols_tensor.proofs.Values.{weight, weight-append, weight-scalar_multiple, value_is_element, value_at-append, value_at-scalar_multiple, same_itself, value_at-linear_map}
-use Rattle.nichols_braid.proofs.Maps.{extended_identity, same_weight_on, weight-plus, weight-times}
+use Rattle.nichols_braid.proofs.Maps.{extended_identity, same_weight_on}
+use Rattle.nichols_tensor.proofs.Maps.{weight-plus, weight-times}
 use Rattle.nichols_tensor.specs.Span.{IsSpanned}
 use Rattle.nichols_tensor.proofs.Spans.{spanned_same, spanned_one, spanned-append, spanned-scalar_multiple, spanned_through, value_of_more}
 
